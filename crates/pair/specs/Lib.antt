@@ -1,0 +1,7 @@
+pub mod Rounding
+pub mod Pairs
+pub mod Integers
+pub mod SignedPairs
+pub mod Fits
+pub mod Enclosure
+pub mod Remainders

@@ -1,0 +1,301 @@
+// Integers and pairs of them, for what may lie below zero. A size may need all 64 bits, so an
+// integer is its size and whether it is below zero; `integer` and `meaning` of specs/SignedPairs
+// say what stands for what.
+use crate::Pair;
+use crate::wide;
+ghost use mathlib.Core.Path.{_≡_};
+ghost use mathlib.Core.Bool.{true};
+ghost use Prim.Native.Nat.{_+_, _*_, _^_, _<_};
+ghost use lib.IntN.{pos, subℕ, negℤ, _+ℤ_, _*ℤ_};
+ghost use Rattle.pair.specs.Rounding.{ceilDiv};
+ghost use Rattle.pair.specs.Integers.{lebℤ, least, greatest, floorOver, ceilOver};
+ghost use Rattle.pair.specs.SignedPairs.{integer, meaning, signed, difference, signedPlus, signedMinus, signedTimes, signedOver, coarser};
+ghost use Rattle.pair.specs.Fits.{signedPlusFits, signedTimesFits, signedOverFits};
+
+pub struct Integer {
+    pub below: bool,
+    pub size: u64,
+}
+
+// A lower and an upper end, in units of 1/s.
+pub struct Signed {
+    pub lo: Integer,
+    pub hi: Integer,
+}
+
+impl Integer {
+    // a - b.
+    pub fn difference(a: u64, b: u64) -> Self
+        ensures { λ r. ⌜ integer r ≡ subℕ a b ⌝ }
+    {
+        if b <= a {
+            Integer {
+                below: false,
+                size: a - b,
+            }
+        } else {
+            Integer {
+                below: true,
+                size: b - a,
+            }
+        }
+    }
+
+    pub fn negated(self) -> Self
+        ensures { λ r. ⌜ integer r ≡ negℤ (integer self) ⌝ }
+    {
+        Integer {
+            below: !self.below,
+            size: self.size,
+        }
+    }
+
+    pub fn plus(self, b: Integer) -> Self
+        requires { ⌜ self .size + b .size < 2 ^ 64 ⌝ }
+        ensures { λ r. ⌜ integer r ≡ integer self +ℤ integer b ⌝ }
+    {
+        let first = self.below;
+        let second = b.below;
+        if first {
+            if second {
+                return Integer {
+                    below: true,
+                    size: self.size + b.size,
+                };
+            }
+            return Integer::difference(b.size, self.size);
+        }
+        if second {
+            return Integer::difference(self.size, b.size);
+        }
+        Integer {
+            below: false,
+            size: self.size + b.size,
+        }
+    }
+
+    pub fn at_most(self, b: Integer) -> bool
+        ensures { λ r. ⌜ r ≡ lebℤ (integer self) (integer b) ⌝ }
+    {
+        let first = self.below;
+        let second = b.below;
+        if first {
+            if second {
+                return b.size <= self.size;
+            }
+            return true;
+        }
+        if second {
+            if self.size == 0 {
+                return b.size == 0;
+            }
+            return false;
+        }
+        self.size <= b.size
+    }
+
+    pub fn least(self, b: Integer) -> Self
+        ensures { λ r. ⌜ integer r ≡ least (integer self) (integer b) ⌝ }
+    {
+        if self.at_most(b) { self } else { b }
+    }
+
+    pub fn greatest(self, b: Integer) -> Self
+        ensures { λ r. ⌜ integer r ≡ greatest (integer self) (integer b) ⌝ }
+    {
+        if self.at_most(b) { b } else { self }
+    }
+
+    // self * x / d rounded toward minus infinity.
+    pub fn floor_by(self, x: u64, d: u64) -> Self
+        requires { ⌜ (0 < d) × (ceilDiv (self .size * x) d < 2 ^ 64) ⌝ }
+        ensures { λ r. ⌜ integer r ≡ floorOver (integer self *ℤ pos x) d ⌝ }
+    {
+        let below = self.below;
+        if below {
+            Integer {
+                below: true,
+                size: wide::ceil_of(self.size, x, d),
+            }
+        } else {
+            Integer {
+                below: false,
+                size: wide::floor_of(self.size, x, d),
+            }
+        }
+    }
+
+    // self * x / d rounded toward plus infinity.
+    pub fn ceil_by(self, x: u64, d: u64) -> Self
+        requires { ⌜ (0 < d) × (ceilDiv (self .size * x) d < 2 ^ 64) ⌝ }
+        ensures { λ r. ⌜ integer r ≡ ceilOver (integer self *ℤ pos x) d ⌝ }
+    {
+        let below = self.below;
+        if below {
+            Integer {
+                below: true,
+                size: wide::floor_of(self.size, x, d),
+            }
+        } else {
+            Integer {
+                below: false,
+                size: wide::ceil_of(self.size, x, d),
+            }
+        }
+    }
+
+    // self * b / d rounded toward minus infinity.
+    pub fn floor_product(self, b: Integer, d: u64) -> Self
+        requires { ⌜ (0 < d) × (ceilDiv (self .size * b .size) d < 2 ^ 64) ⌝ }
+        ensures { λ r. ⌜ integer r ≡ floorOver (integer self *ℤ integer b) d ⌝ }
+    {
+        let below = b.below;
+        if below {
+            self.negated().floor_by(b.size, d)
+        } else {
+            self.floor_by(b.size, d)
+        }
+    }
+
+    // self * b / d rounded toward plus infinity.
+    pub fn ceil_product(self, b: Integer, d: u64) -> Self
+        requires { ⌜ (0 < d) × (ceilDiv (self .size * b .size) d < 2 ^ 64) ⌝ }
+        ensures { λ r. ⌜ integer r ≡ ceilOver (integer self *ℤ integer b) d ⌝ }
+    {
+        let below = b.below;
+        if below {
+            self.negated().ceil_by(b.size, d)
+        } else {
+            self.ceil_by(b.size, d)
+        }
+    }
+}
+
+// The least product of an end of a and an end of b, over s, rounded toward minus infinity.
+fn least_product(a: Signed, b: Signed, s: u64) -> Integer
+    requires { ⌜ signedTimesFits s (meaning a) (meaning b) ≡ true ⌝ }
+    ensures { λ r. ⌜ integer r ≡ signedTimes s (meaning a) (meaning b) .lo ⌝ }
+{
+    let p = a.lo;
+    let q = a.hi;
+    let x = b.lo;
+    let y = b.hi;
+    let first = p.floor_product(x, s).least(p.floor_product(y, s));
+    let second = q.floor_product(x, s).least(q.floor_product(y, s));
+    first.least(second)
+}
+
+// The greatest product of an end of a and an end of b, over s, rounded toward plus infinity.
+fn greatest_product(a: Signed, b: Signed, s: u64) -> Integer
+    requires { ⌜ signedTimesFits s (meaning a) (meaning b) ≡ true ⌝ }
+    ensures { λ r. ⌜ integer r ≡ signedTimes s (meaning a) (meaning b) .hi ⌝ }
+{
+    let p = a.lo;
+    let q = a.hi;
+    let x = b.lo;
+    let y = b.hi;
+    let first = p.ceil_product(x, s).greatest(p.ceil_product(y, s));
+    let second = q.ceil_product(x, s).greatest(q.ceil_product(y, s));
+    first.greatest(second)
+}
+
+impl Signed {
+    pub fn of(p: Pair) -> Self
+        ensures { λ r. ⌜ meaning r ≡ signed p ⌝ }
+    {
+        Signed {
+            lo: Integer {
+                below: false,
+                size: p.lo,
+            },
+            hi: Integer {
+                below: false,
+                size: p.hi,
+            },
+        }
+    }
+
+    // p - q.
+    pub fn between(p: Pair, q: Pair) -> Self
+        ensures { λ r. ⌜ meaning r ≡ difference p q ⌝ }
+    {
+        Signed {
+            lo: Integer::difference(p.lo, q.hi),
+            hi: Integer::difference(p.hi, q.lo),
+        }
+    }
+
+    pub fn plus(self, b: Signed) -> Self
+        requires { ⌜ signedPlusFits (meaning self) (meaning b) ≡ true ⌝ }
+        ensures { λ r. ⌜ meaning r ≡ signedPlus (meaning self) (meaning b) ⌝ }
+    {
+        let p = self.lo;
+        let q = self.hi;
+        Signed {
+            lo: p.plus(b.lo),
+            hi: q.plus(b.hi),
+        }
+    }
+
+    pub fn minus(self, b: Signed) -> Self
+        requires { ⌜ signedPlusFits (meaning self) (meaning b) ≡ true ⌝ }
+        ensures { λ r. ⌜ meaning r ≡ signedMinus (meaning self) (meaning b) ⌝ }
+    {
+        let p = self.lo;
+        let q = self.hi;
+        let x = b.lo;
+        let y = b.hi;
+        Signed {
+            lo: p.plus(y.negated()),
+            hi: q.plus(x.negated()),
+        }
+    }
+
+    // By a pair, none of which is below zero: an end below zero takes the pair's other end.
+    pub fn times(self, p: Pair, s: u64) -> Self
+        requires { ⌜ signedTimesFits s (meaning self) (signed p) ≡ true ⌝ }
+        ensures { λ r. ⌜ meaning r ≡ signedTimes s (meaning self) (signed p) ⌝ }
+    {
+        let a = self.lo;
+        let b = self.hi;
+        Signed {
+            lo: a.floor_by(wide::pick(a.below, p.hi, p.lo), s),
+            hi: b.ceil_by(wide::pick(b.below, p.lo, p.hi), s),
+        }
+    }
+
+    pub fn times_signed(self, b: Signed, s: u64) -> Self
+        requires { ⌜ signedTimesFits s (meaning self) (meaning b) ≡ true ⌝ }
+        ensures { λ r. ⌜ meaning r ≡ signedTimes s (meaning self) (meaning b) ⌝ }
+    {
+        Signed {
+            lo: least_product(self, b, s),
+            hi: greatest_product(self, b, s),
+        }
+    }
+
+    pub fn over(self, q: Pair, s: u64) -> Self
+        requires { ⌜ signedOverFits s (meaning self) q ≡ true ⌝ }
+        ensures { λ r. ⌜ meaning r ≡ signedOver s (meaning self) q ⌝ }
+    {
+        let a = self.lo;
+        let b = self.hi;
+        Signed {
+            lo: a.floor_by(s, wide::pick(a.below, q.lo, q.hi)),
+            hi: b.ceil_by(s, wide::pick(b.below, q.hi, q.lo)),
+        }
+    }
+
+    // In a unit k times as large.
+    pub fn coarser(self, k: u64) -> Self
+        requires { ⌜ 0 < k ⌝ }
+        ensures { λ r. ⌜ meaning r ≡ coarser k (meaning self) ⌝ }
+    {
+        let a = self.lo;
+        let b = self.hi;
+        Signed {
+            lo: a.floor_by(1, k),
+            hi: b.ceil_by(1, k),
+        }
+    }
+}

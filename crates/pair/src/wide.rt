@@ -1,0 +1,127 @@
+// Quotients of a product of two u64, which has 128 bits, where no type is that wide.
+ghost use mathlib.Core.Path.{_≡_};
+ghost use mathlib.Core.Bool.{cond};
+ghost use Prim.Native.Nat.{_+_, _*_, _/_, _^_, _<_};
+ghost use Rattle.pair.specs.Rounding.{ceilDiv};
+ghost use Rattle.pair.specs.Remainders.{Split};
+
+// A quotient with its remainder.
+pub struct Divided {
+    pub quotient: u64,
+    pub rest: u64,
+}
+
+// a or b, without a branch: where no branch can be foreseen, as for a root's bits.
+pub fn pick(c: bool, a: u64, b: u64) -> u64
+    ensures { λ r. ⌜ r ≡ cond c a b ⌝ }
+{
+    if c { a } else { b }
+}
+
+// The upper 64 bits of a * b, from products of halves of 32 bits added column by column.
+pub fn high(a: u64, b: u64) -> u64
+    ensures { λ r. ⌜ r ≡ a * b / 2 ^ 64 ⌝ }
+{
+    let a0 = a % 0x1_0000_0000;
+    let a1 = a / 0x1_0000_0000;
+    let b0 = b % 0x1_0000_0000;
+    let b1 = b / 0x1_0000_0000;
+    let middle = a1 * b0 + a0 * b0 / 0x1_0000_0000;
+    let next = a0 * b1 + middle % 0x1_0000_0000;
+    a1 * b1 + middle / 0x1_0000_0000 + next / 0x1_0000_0000
+}
+
+// The remainder grows by x, which may carry one into the quotient.
+fn carried(q: u64, r: u64, x: u64, d: u64) -> Divided
+    requires { ⌜ (q + 1 < 2 ^ 64) × (r < d) × (x < d) ⌝ }
+    ensures { λ t. ⌜ Split (q * d + r + x) d (t .quotient) (t .rest) ⌝ }
+{
+    let gap = d - x;
+    if gap <= r {
+        Divided {
+            quotient: q + 1,
+            rest: r - gap,
+        }
+    } else {
+        Divided {
+            quotient: q,
+            rest: r + x,
+        }
+    }
+}
+
+// x * y by d, one bit of y after the other from the top: for the few products that need it.
+fn by_bits(x: u64, y: u64, d: u64) -> Divided
+    requires { ⌜ x < d ⌝ }
+    ensures { λ t. ⌜ Split (x * y) d (t .quotient) (t .rest) ⌝ }
+{
+    if y == 0 {
+        return Divided {
+            quotient: 0,
+            rest: 0,
+        };
+    }
+    let t = by_bits(x, y / 2, d);
+    let u = carried(t.quotient + t.quotient, t.rest, t.rest, d);
+    if y % 2 == 0 {
+        u
+    } else {
+        carried(u.quotient, u.rest, x, d)
+    }
+}
+
+// x * y by d, for x below d: at once where the product fits a word.
+fn reduced(x: u64, y: u64, d: u64) -> Divided
+    requires { ⌜ x < d ⌝ }
+    ensures { λ t. ⌜ Split (x * y) d (t .quotient) (t .rest) ⌝ }
+{
+    if high(x, y) == 0 {
+        let n = x * y;
+        Divided {
+            quotient: n / d,
+            rest: n % d,
+        }
+    } else {
+        by_bits(x, y, d)
+    }
+}
+
+// a * b by d. Where the product passes a word, a is taken apart as a / d * d + a % d.
+pub fn product_by(a: u64, b: u64, d: u64) -> Divided
+    requires { ⌜ (0 < d) × (a * b / d < 2 ^ 64) ⌝ }
+    ensures { λ t. ⌜ Split (a * b) d (t .quotient) (t .rest) ⌝ }
+{
+    if high(a, b) == 0 {
+        let n = a * b;
+        return Divided {
+            quotient: n / d,
+            rest: n % d,
+        };
+    }
+    let t = reduced(a % d, b, d);
+    Divided {
+        quotient: a / d * b + t.quotient,
+        rest: t.rest,
+    }
+}
+
+// a * b / d rounded down.
+pub fn floor_of(a: u64, b: u64, d: u64) -> u64
+    requires { ⌜ (0 < d) × (a * b / d < 2 ^ 64) ⌝ }
+    ensures { λ r. ⌜ r ≡ a * b / d ⌝ }
+{
+    product_by(a, b, d).quotient
+}
+
+// a * b / d rounded up.
+pub fn ceil_of(a: u64, b: u64, d: u64) -> u64
+    requires { ⌜ (0 < d) × (ceilDiv (a * b) d < 2 ^ 64) ⌝ }
+    ensures { λ r. ⌜ r ≡ ceilDiv (a * b) d ⌝ }
+{
+    let t = product_by(a, b, d);
+    if t.rest == 0 {
+        t.quotient
+    } else {
+        t.quotient + 1
+    }
+}

@@ -1,0 +1,68 @@
+// What a case prints.
+use libc::STDOUT_FILENO;
+use pair::Pair;
+use pair::signed::Integer;
+use pair::signed::Signed;
+
+// What an operation gave.
+pub enum Outcome {
+    NotApplied,
+    Truth(bool),
+    Whole(u64),
+    Rooted(u64, u64),
+    Ends(Pair),
+    Integer(Integer),
+    SignedEnds(Signed),
+}
+
+fn number(n: u64) {
+    io::write_all(STDOUT_FILENO, b" ");
+    io::print_decimal(STDOUT_FILENO, n);
+}
+
+fn integer(z: Integer) {
+    let below = z.below;
+    if below {
+        if 0 < z.size {
+            io::write_all(STDOUT_FILENO, b" -");
+            io::print_decimal(STDOUT_FILENO, z.size);
+            return;
+        }
+    }
+    number(z.size);
+}
+
+fn two(a: u64, b: u64) {
+    number(a);
+    number(b);
+}
+
+fn truth(holds: bool) {
+    if holds {
+        number(1);
+    } else {
+        number(0);
+    }
+}
+
+fn signed(a: Signed) {
+    integer(a.lo);
+    integer(a.hi);
+}
+
+// A line: the operation's name, and what it gave.
+pub fn line(name: &[u8], outcome: Outcome) {
+    io::write_all(STDOUT_FILENO, name);
+    match outcome {
+        Outcome::NotApplied => {
+            io::write_all(STDOUT_FILENO, b" does not apply");
+        }
+        Outcome::Truth(holds) => truth(holds),
+        Outcome::Whole(n) => number(n),
+        Outcome::Rooted(root, rest) => two(root, rest),
+        Outcome::Ends(p) => two(p.lo, p.hi),
+        Outcome::Integer(z) => integer(z),
+        Outcome::SignedEnds(a) => signed(a),
+    }
+    io::write_all(STDOUT_FILENO, b"\n");
+}

@@ -1,0 +1,189 @@
+// Times the pair operations of crate pair (through libpair_c.a) beside plain C on the same operands.
+// Both must agree on every operand of the run. Prints ns for one operation and the ratio, for
+// operations that do not depend on each other, and for a chain where each waits for the one before.
+#include <math.h>
+#include <stdint.h>
+#include <stdio.h>
+#include <stdlib.h>
+#include <time.h>
+
+typedef uint64_t u64;
+typedef unsigned __int128 u128;
+typedef struct { u64 lo, hi; } Ends;
+
+u64 pair_floor_of(u64 a, u64 b, u64 d);
+u64 pair_ceil_of(u64 a, u64 b, u64 d);
+Ends pair_times(u64 lo, u64 hi, u64 least, u64 most, u64 s);
+Ends pair_over(u64 lo, u64 hi, u64 least, u64 most, u64 s);
+Ends pair_root(u64 lo, u64 hi, u64 s);
+Ends pair_cube_root(u64 lo, u64 hi, u64 s);
+
+#define ALONE __attribute__((noinline))
+
+// ---- plain C
+
+static ALONE u64 c_floor_of(u64 a, u64 b, u64 d) { return (u64)((u128)a * b / d); }
+static ALONE u64 c_ceil_of(u64 a, u64 b, u64 d) { return (u64)(((u128)a * b + (d - 1)) / d); }
+
+static ALONE Ends c_times(u64 lo, u64 hi, u64 least, u64 most, u64 s) {
+    return (Ends){(u64)((u128)lo * least / s), (u64)(((u128)hi * most + (s - 1)) / s)};
+}
+
+static ALONE Ends c_over(u64 lo, u64 hi, u64 least, u64 most, u64 s) {
+    return (Ends){(u64)((u128)lo * s / most), (u64)(((u128)hi * s + (least - 1)) / least)};
+}
+
+// The processor's root of a double, corrected in whole numbers.
+static inline u64 square_down(u128 n) {
+    u64 r = (u64)sqrt((double)n);
+    while ((u128)r * r > n) r--;
+    while ((u128)(r + 1) * (r + 1) <= n) r++;
+    return r;
+}
+
+static ALONE Ends c_root(u64 lo, u64 hi, u64 s) {
+    u64 up = square_down((u128)hi * s);
+    return (Ends){square_down((u128)lo * s), up + ((u128)up * up < (u128)hi * s)};
+}
+
+static inline u64 cube_down(u128 n) {
+    u64 r = (u64)cbrt((double)n);
+    while ((u128)r * r * r > n) r--;
+    while ((u128)(r + 1) * (r + 1) * (r + 1) <= n) r++;
+    return r;
+}
+
+static ALONE Ends c_cube_root(u64 lo, u64 hi, u64 s) {
+    u128 a = (u128)lo * s * s, b = (u128)hi * s * s;
+    u64 up = cube_down(b);
+    return (Ends){cube_down(a), up + ((u128)up * up * up < b)};
+}
+
+// ---- operands
+
+enum { N = 4096, PASSES = 200, TRIES = 7 };
+
+typedef struct { Ends p[N], q[N]; } Operands;
+
+static u64 state = 88172645463325252u;
+
+static u64 draw(void) {
+    state ^= state << 13;
+    state ^= state >> 7;
+    state ^= state << 17;
+    return state;
+}
+
+// Between least and most, each power of ten as likely as the next.
+static u64 spread(double least, double most) {
+    double part = (double)(draw() >> 11) / 9007199254740992.0;
+    return (u64)(least * pow(most / least, part));
+}
+
+// Ends 0 to 4 units apart.
+static void fill(Ends *p, double least, double most) {
+    for (int i = 0; i < N; i++) {
+        u64 lo = spread(least, most);
+        p[i] = (Ends){lo, lo + draw() % 5};
+    }
+}
+
+// ---- timing
+
+static double seconds(void) {
+    struct timespec t;
+    clock_gettime(CLOCK_MONOTONIC, &t);
+    return (double)t.tv_sec + (double)t.tv_nsec * 1e-9;
+}
+
+static u64 scale = 1000000;
+static volatile u64 sink;
+
+// The best of some tries, in ns for one operation. `wait` is what the next operand takes from the
+// result before: its highest bit, which is 0 in this run, and the compiler does not know it.
+#define TIME(CHAINED, CALL)                                            \
+    ({                                                                 \
+        double best = 1e9;                                             \
+        for (int t = 0; t < TRIES; t++) {                              \
+            u64 sum = 0, wait = 0;                                     \
+            double began = seconds();                                  \
+            for (int k = 0; k < PASSES; k++)                           \
+                for (int i = 0; i < N; i++) {                          \
+                    u64 got = CALL;                                    \
+                    sum += got;                                        \
+                    if (CHAINED) wait = got >> 63;                     \
+                }                                                      \
+            double took = (seconds() - began) / PASSES / N * 1e9;      \
+            if (took < best) best = took;                              \
+            sink = sum;                                                \
+        }                                                              \
+        best;                                                          \
+    })
+
+static inline u64 both(Ends e) { return e.lo | e.hi; }
+static inline u64 word(u64 v) { return v; }
+
+static void differ(const char *name, int i) {
+    printf("%s: the two differ at operand %d\n", name, i);
+    exit(1);
+}
+
+#define AGREE(NAME, A, B)                                        \
+    for (int i = 0; i < N; i++) {                                \
+        u64 wait = 0;                                            \
+        Ends a = A, b = B;                                       \
+        if (a.lo != b.lo || a.hi != b.hi) differ(NAME, i);       \
+    }
+
+static void say(const char *name, double c, double pair, double c_chain, double pair_chain) {
+    printf("%-34s %7.2f %7.2f %6.2f   %7.2f %7.2f %6.2f\n", name, c, pair, pair / c, c_chain, pair_chain, pair_chain / c_chain);
+}
+
+#define ENDS(F, ...) F(o->p[i].lo + wait, o->p[i].hi + wait, __VA_ARGS__)
+#define RUN(NAME, C, PAIR, ...)                                                                           \
+    do {                                                                                                  \
+        AGREE(NAME, ENDS(C, __VA_ARGS__), ENDS(PAIR, __VA_ARGS__));                                       \
+        double a = TIME(0, both(ENDS(C, __VA_ARGS__))), b = TIME(0, both(ENDS(PAIR, __VA_ARGS__)));       \
+        double c = TIME(1, both(ENDS(C, __VA_ARGS__))), d = TIME(1, both(ENDS(PAIR, __VA_ARGS__)));       \
+        say(NAME, a, b, c, d);                                                                            \
+    } while (0)
+
+#define ONE(F, A, B, D) ((Ends){F(A, B, D), 0})
+#define RUN_WORD(NAME, C, PAIR, A, B, D)                                                    \
+    do {                                                                                    \
+        AGREE(NAME, ONE(C, A + wait, B, D), ONE(PAIR, A + wait, B, D));                     \
+        double a = TIME(0, word(C(A + wait, B, D))), b = TIME(0, word(PAIR(A + wait, B, D))); \
+        double c = TIME(1, word(C(A + wait, B, D))), d = TIME(1, word(PAIR(A + wait, B, D))); \
+        say(NAME, a, b, c, d);                                                              \
+    } while (0)
+
+static Operands lengths, large, larger;
+
+static void run(Operands *o, const char *floor_name, const char *ceil_name, const char *times_name) {
+    RUN_WORD(floor_name, c_floor_of, pair_floor_of, o->p[i].lo, o->q[i].lo, scale);
+    RUN_WORD(ceil_name, c_ceil_of, pair_ceil_of, o->p[i].lo, o->q[i].lo, scale);
+    RUN(times_name, c_times, pair_times, o->q[i].lo, o->q[i].hi, scale);
+}
+
+int main(void) {
+    // units of 1/scale mm: 0.05 to 500 mm, whose products stay within 64 bits; those by 4e10 to
+    // 4e12 units (areas, section moduli) and the quotients of 2e13 to 1e15 units pass them
+    fill(lengths.p, 5e4, 5e8);
+    fill(lengths.q, 5e4, 5e8);
+    fill(large.p, 4e10, 4e12);
+    fill(large.q, 4.9e8, 5e8);
+    fill(larger.p, 2e13, 1e15);
+    fill(larger.q, 5e4, 5e8);
+    printf("%-34s %23s   %23s\n", "", "not waiting", "chained");
+    printf("%-34s %7s %7s %6s   %7s %7s %6s\n", "ns for one operation", "C", "pair", "ratio", "C", "pair", "ratio");
+    run(&lengths, "floor_of", "ceil_of", "times");
+    run(&large, "floor_of, past 64 bits", "ceil_of, past 64 bits", "times, past 64 bits");
+    Operands *o = &lengths;
+    RUN("over", c_over, pair_over, o->q[i].lo, o->q[i].hi, scale);
+    o = &larger;
+    RUN("over, past 64 bits", c_over, pair_over, o->q[i].lo, o->q[i].hi, scale);
+    o = &lengths;
+    RUN("root", c_root, pair_root, scale);
+    RUN("cube_root", c_cube_root, pair_cube_root, scale);
+    return 0;
+}

@@ -1,0 +1,13 @@
+#!/usr/bin/env bash
+# Passes all tests. The last line is rt's: 'N passed, 0 failed'.
+set -eu
+cd "$(dirname "$0")/.."
+
+# The expected output of the cases is what exact arithmetic gives, and not what the program printed.
+if command -v python3 >/dev/null; then
+    python3 tests/pair_cases.py --check
+else
+    echo "python3 is not here: expected output is taken as kept, and not made anew"
+fi
+
+rt ci
