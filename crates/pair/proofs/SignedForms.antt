@@ -1,5 +1,5 @@
 -- Signed pairs as the code holds them: which ends give the least and the greatest result, and that every part of it fits.
-use mathlib.Core.Path.{_≡_, ap, ap₂, _∙_}
+use mathlib.Core.Path.{_≡_, refl, ap, ap₂, _∙_}
 use mathlib.Core.Bool.{Bool, true, false, cond}
 use Prim.Native.Nat.{ℕ, _+_, _*_, _^_, _≤_, _<_}
 use native.Mathlib.Nat.{le-trans, lt-of-le-of-lt, add-le-add, le-max-left, le-max-right, mul-le-mul, mul-le-mul-right, mul-le-mul-left}
@@ -16,6 +16,16 @@ use Rattle.pair.proofs.IntegerLaws.{le-transℤ, scaled-le, least-left,
 use Rattle.pair.proofs.IntegerRounding.{floor-least, ceil-greatest}
 use Rattle.pair.proofs.IntegerForms.{times-least, times-greatest, over-least, over-greatest}
 use Rattle.pair.proofs.SignedBounds.{PlusRoom, TimesRoom, OverRoom}
+
+-- the ends of what the code's form stands for
+
+pub meaning-low : (a : Signed) → (meaning a) .lo ≡ integer (a .lo)
+unfolding meaning
+meaning-low a = refl
+
+pub meaning-high : (a : Signed) → (meaning a) .hi ≡ integer (a .hi)
+unfolding meaning
+meaning-high a = refl
 
 -- the product with a pair none of which is below zero rests on one end
 

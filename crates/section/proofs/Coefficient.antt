@@ -1,0 +1,113 @@
+-- k of the lip: both its ends rise with q, a finer k lies inside a coarser one, and it is from 0.5 to 0.83 for q up to 0.6.
+use Prim.Native.Nat.{ℕ, _*_, _≤_, _<_}
+use mathlib.Core.Path.{_≡_, refl}
+use mathlib.Core.Bool.{Bool, true, false, cond}
+use native.Mathlib.Nat.{le-refl, le-trans, mul-one, mul-pos, mul-le-mul-right}
+use native.Mathlib.Omega.{arith}
+use borrow.Author.Tests.{leb-true, leb-false}
+use lib.Dec.{leb, lit<, lit≤}
+use Rattle.pair.specs.Pairs.{_to_, minus}
+use Rattle.pair.specs.Enclosure.{Inside, Ordered, Positive, AtLeast, AtMost}
+use Rattle.pair.specs.declared.Pair.{Pair}
+use Rattle.pair.proofs.Laws.{ratio-inside, ratio-positive, ratio-ordered, minus-ordered, times-ordered, cube-root-ordered}
+use Rattle.pair.proofs.Bounds.{exact-at-least, exact-at-most, plus-at-most, minus-at-most, times-at-most, cube-root-at-most, box-wider}
+use Rattle.pair.proofs.Ratios.{ratio-exact}
+use Rattle.pair.proofs.Nesting.{inside}
+use Rattle.section.specs.Working.{S, constant, units, k, k-at, k-past}
+use Rattle.section.proofs.Ends.{scale-positive, finer, constant-exact, units-finer}
+use Rattle.section.proofs.Rising.{Rises, same-rises, plus-more, rising}
+
+at-ordered : (q : ℕ) → Ordered (q to q)
+at-ordered q = record { ends = le-refl q }
+
+-- past 0.35
+
+past-inside : {n m : ℕ} {Q q : Pair} → 0 < n → 0 < m → Inside m Q q → Inside m (k-past (m * n) Q) (k-past n q)
+unfolding k-past
+past-inside n⁺ m⁺ i = search (inside, finer, constant-exact, lit<) depth 20
+
+past-rises : {n : ℕ} {q q′ : Pair} → 0 < n → Rises q q′ → Rises (k-past n q) (k-past n q′)
+unfolding k-past
+past-rises n⁺ r = search (rising, scale-positive) depth 20
+
+past-least : {n : ℕ} {q : Pair} → 0 < n → Ordered q → Rises (constant n 1 2) (k-past n q)
+unfolding k-past
+past-least n⁺ o = search (plus-more, ratio-ordered, minus-ordered, times-ordered, cube-root-ordered, scale-positive) depth 20
+
+-- at one value of q
+
+module _ (n : ℕ) (n⁺ : 0 < n) where
+  pub k-rises : (q q′ : ℕ) → q ≤ q′ → Rises (k-at n q) (k-at n q′)
+  unfolding k-at
+  k-rises q q′ h = go (leb q (units n 35 100)) (leb q′ (units n 35 100)) refl refl
+    where
+      go : (b c : Bool) → leb q (units n 35 100) ≡ b → leb q′ (units n 35 100) ≡ c
+          → Rises (cond b (constant n 1 2) (k-past n (q to q))) (cond c (constant n 1 2) (k-past n (q′ to q′)))
+      go true true e f = same-rises (ratio-ordered _ _ _)
+      go true false e f = past-least n⁺ (at-ordered q′)
+      go false true e f = absurd (omega (arith, leb-false q (units n 35 100) e, leb-true q′ (units n 35 100) f))
+      go false false e f = past-rises n⁺ (record { low = h; high = h; first = at-ordered q; second = at-ordered q′ })
+
+  k-least : (q : ℕ) → Rises (constant n 1 2) (k-at n q)
+  unfolding k-at
+  k-least q = go (leb q (units n 35 100))
+    where
+      go : (b : Bool) → Rises (constant n 1 2) (cond b (constant n 1 2) (k-past n (q to q)))
+      go true = same-rises (ratio-ordered _ _ _)
+      go false = past-least n⁺ (at-ordered q)
+
+  -- the same value at a finer scale
+  module _ (m : ℕ) (m⁺ : 0 < m) where
+    at-inside : (q : ℕ) → Inside m (k-at (m * n) (q * m)) (k-at n q)
+    unfolding k-at
+    at-inside q = go (leb q (units n 35 100)) (leb (q * m) (units (m * n) 35 100)) refl refl
+      where
+        go : (b c : Bool) → leb q (units n 35 100) ≡ b → leb (q * m) (units (m * n) 35 100) ≡ c
+            → Inside m (cond c (constant (m * n) 1 2) (k-past (m * n) (q * m to q * m))) (cond b (constant n 1 2) (k-past n (q to q)))
+        go true true e f = ratio-inside 1 2 (finer m⁺ n⁺) (constant-exact 1 2 n⁺ (lit< tt) refl)
+        go true false e f = absurd (omega (arith, units-finer m n 35 100 refl, mul-le-mul-right m (leb-true q (units n 35 100) e), leb-false (q * m) (units (m * n) 35 100) f))
+        go false true e f = absurd (omega (arith, units-finer m n 35 100 refl, mul-le-mul-right m (leb-false q (units n 35 100) e), leb-true (q * m) (units (m * n) 35 100) f))
+        go false false e f = past-inside n⁺ m⁺ (record { low = le-refl _; mid = le-refl _; high = le-refl _ })
+
+-- end by end: through the coarser end of q at the finer scale
+pub k-inside : {n m : ℕ} {Q q : Pair} → 0 < n → 0 < m → Inside m Q q → Inside m (k (m * n) Q) (k n q)
+unfolding k
+k-inside {n} {m} {Q} {q} n⁺ m⁺ i =
+    let mn⁺ : 0 < m * n = mul-pos m⁺ n⁺ in
+    record {
+      low = le-trans (at-inside n n⁺ m m⁺ (q .lo) .low) (k-rises (m * n) mn⁺ _ _ (i .low) .low);
+      mid = le-trans (k-rises (m * n) mn⁺ _ _ (i .mid) .first .ends) (k-rises (m * n) mn⁺ _ _ (i .mid) .high);
+      high = le-trans (k-rises (m * n) mn⁺ _ _ (i .high) .high) (at-inside n n⁺ m m⁺ (q .hi) .high);
+    }
+
+pub k-positive : {n : ℕ} (q : Pair) → 0 < n → Positive (k n q)
+unfolding k
+k-positive {n} q n⁺ = record { low = le-trans (ratio-positive (S n) 1 2 (lit< tt) (constant-exact 1 2 n⁺ (lit< tt) refl) .low) (k-least n n⁺ (q .lo) .low) }
+
+-- a box, in millionths
+
+constant-least : (a b v : ℕ) → 0 < b → v * b ≡ a * 1000000 → AtLeast v (constant 1 a b)
+constant-least a b v b⁺ e = rw (ratio-exact 1000000 a b v b⁺ e) (exact-at-least v)
+
+constant-most : (a b v : ℕ) → 0 < b → v * b ≡ a * 1000000 → AtMost v (constant 1 a b)
+constant-most a b v b⁺ e = rw (ratio-exact 1000000 a b v b⁺ e) (exact-at-most v)
+
+k-most : AtMost 830000 (k-at 1 600000)
+unfolding k-at k-past
+k-most =
+    plus-at-most (constant-most 1 2 500000 (lit< tt) refl)
+    (times-at-most 1000000 330000 (lit< tt) (constant-most 83 100 830000 (lit< tt) refl)
+    (cube-root-at-most 1000000 396900
+    (times-at-most 1000000 62500 (lit< tt) less less (lit≤ tt))
+    (lit≤ tt))
+    (lit≤ tt))
+  where
+    less : AtMost 250000 (minus (600000 to 600000) (constant 1 35 100))
+    less = minus-at-most (record { high = le-refl 600000 }) (constant-least 35 100 350000 (lit< tt) refl)
+
+pub k-box : {n a : ℕ} {Q : Pair} → 0 < n → Inside n Q (a to 600000) → Inside n (k n Q) (500000 to 830000)
+unfolding k
+k-box {n} {a} n⁺ i =
+    box-wider 500000 830000 (rw (mul-one n) at (k-inside {n = 1} (lit< tt) n⁺ i))
+    (record { low = le-trans (constant-least 1 2 500000 (lit< tt) refl .low) (k-least 1 (lit< tt) a .low) })
+    (record { high = k-most .high })

@@ -1,0 +1,24 @@
+-- What is proved of every sheet that meets questions 2 to 10, in one place.
+use Prim.Native.Nat.{ℕ, _*_, _<_}
+use native.Mathlib.Omega.{arith}
+use Rattle.section.specs.declared.Sheet.{Sheet}
+use Rattle.section.specs.Sheets.{Sound}
+use Rattle.section.specs.Working.{worked}
+use Rattle.section.specs.Figures.{figures, Question11, Held}
+use Rattle.section.specs.Nested.{WorkedInside}
+use Rattle.section.proofs.Whole.{SheetDivisors, sheet-divisors, worked-inside}
+use Rattle.section.proofs.Promise.{held}
+use Rattle.section.proofs.SizesOfSheets.{own-divisors}
+
+-- no divisor is zero, at any scale
+pub divisors-above-zero : {n : ℕ} (q : Sheet) → 0 < n → Sound q → SheetDivisors n q
+divisors-above-zero q n⁺ s = sheet-divisors q n⁺ (own-divisors s)
+
+-- the working at m times a scale lies inside the working at that scale: area, both χ, z, gross z and shift
+pub finer-working-inside : {n m : ℕ} (q : Sheet) → 0 < n → 0 < m → Sound q → WorkedInside m (worked (m * n) q) (worked n q)
+finer-working-inside q n⁺ m⁺ s = worked-inside n⁺ m⁺ q (divisors-above-zero q n⁺ s)
+
+-- and both ends of its area, axial resistance and shift are held by what is printed at that scale, where the eleventh question is met
+pub finer-working-held : {n m : ℕ} (q : Sheet) → 0 < n → 0 < m → Sound q → Question11 n q → Held (m * n) (figures n q) (q .allow) (q .fyb) (q .gm0) (worked (m * n) q)
+finer-working-held q n⁺ m⁺ s a =
+    held n⁺ m⁺ q (omega (arith, s .q2 .gm0 .low)) (divisors-above-zero q n⁺ s) a

@@ -1,0 +1,55 @@
+-- `section::sections::worked_of` meets its contract.
+use mathlib.Core.Path.{ap, _∙_}
+use Rattle.pair.specs.Pairs.{times}
+use Rattle.pair.specs.SignedPairs.{signedMinus}
+use Rattle.pair.specs.declared.Pair.{Pair}
+use Rattle.section.specs.declared.Kept.{Kept}
+use Rattle.section.specs.Working.{S, mm, L, z, worked}
+use Rattle.section.specs.Forms.{workedOf}
+use Rattle.section.proofs.sections.worked_of.Statement.{statement}
+use Rattle.section.proofs.sections.worked_of.Tie as tie
+
+length-requires : tie.Need-length-requires
+length-requires c κs = rw (c .before .before .before .pre .2) (c .before .before .before .pre .0 .axis .length)
+
+constant-times-requires : tie.Need-constant-times-requires
+constant-times-requires c κs = (c .before .before .before .before .pre .0 .fine, rw (c .length .ensures, c .before .before .before .before .pre .2) (c .before .before .before .before .pre .0 .area))
+
+axis-requires : tie.Need-axis-requires
+axis-requires c κs = rw (c .before .before .before .before .before .pre .1, c .before .before .before .before .before .pre .2) (c .before .before .before .before .before .pre .0 .axis)
+
+axis-requires-2 : tie.Need-axis-requires-2
+axis-requires-2 c κs = rw (c .before .before .before .before .before .before .pre .1, c .before .before .before .before .before .before .pre .3) (c .before .before .before .before .before .before .pre .0 .gross)
+
+minus-requires : tie.Need-minus-requires
+minus-requires c κs =
+    rw (c .axis2 .ensures, c .before .axis .ensures, c .before .before .before .before .before .before .before .pre .1, c .before .before .before .before .before .before .before .pre .2, c .before .before .before .before .before .before .before .pre .3) (c .before .before .before .before .before .before .before .pre .0 .shift)
+
+returns : tie.Need-returns
+unfolding worked workedOf
+returns c =
+    let start = c .before .before .before .before .before .before .before .before in
+    let n = start .args .n in
+    let hp = start .pre .1 in
+    let e = start .pre .2 in
+    let axis = c .before .before .axis .ensures ∙ (λ i. z n (hp i) (e i)) in
+    let gross = c .before .axis2 .ensures ∙ (λ i. z n (hp i) (start .pre .3 i)) in
+    λ i. record {
+      area = (c .before .before .before .constant-times .ensures ∙ ap (λ (x : Pair). times (S n) (mm n (start .args .q .t .0)) x) (c .before .before .before .before .length .ensures ∙ ap (λ (x : Kept). L n x) e)) i;
+      χ₁ = (e i) .chi1;
+      χ₂ = (e i) .chi2;
+      z = axis i;
+      gross-z = gross i;
+      shift = (c .minus .ensures ∙ (λ j. signedMinus (axis j) (gross j))) i;
+    }
+
+pub worked-of-spec : {M : Type 1} → statement M
+worked-of-spec =
+    tie.close
+    (tie.spec
+    length-requires
+    constant-times-requires
+    axis-requires
+    axis-requires-2
+    minus-requires
+    returns)

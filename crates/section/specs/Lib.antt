@@ -1,0 +1,6 @@
+pub mod Sheets
+pub mod Working
+pub mod Figures
+pub mod Forms
+pub mod Nested
+pub mod Room

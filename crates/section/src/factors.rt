@@ -1,0 +1,148 @@
+// The part of a width that counts and the thickness factor, at the ends of a slenderness: each
+// falls, so its lower end comes from the upper end. (Document 01, "Widths and slenderness" and
+// "Stiffener of each flange".)
+use pair::Pair;
+use pair::wide;
+ghost use mathlib.Core.Path.{_≡_};
+ghost use Prim.Native.Nat.{_*_, _≤_, _<_, min, max};
+ghost use Rattle.section.specs.Working.{ρ-down, ρ-up, ρ-plane, ρ-lip, χ-before-down, χ-before-up, χ-from-down, χ-from-up, χ};
+ghost use Rattle.section.specs.Room.{Fine, Share, Slim};
+
+fn smaller(a: u64, b: u64) -> u64
+    ensures { λ r. ⌜ r ≡ min a b ⌝ }
+{
+    if a < b { a } else { b }
+}
+
+fn larger(a: u64, b: u64) -> u64
+    ensures { λ r. ⌜ r ≡ max a b ⌝ }
+{
+    if a < b { b } else { a }
+}
+
+// (u - less) / u² rounded down, dividing by u twice: 1 up to the limit.
+fn share_down(n: u64, limit: u64, less: u64, u: u64) -> u64
+    requires { ⌜ Share n limit less u ⌝ }
+    ensures { λ r. ⌜ r ≡ ρ-down n limit less u ⌝ }
+{
+    let s = n * 1_000_000;
+    if u <= limit {
+        return s;
+    }
+    let once = wide::floor_of((u - less) * s, s, u);
+    smaller(s, once / u)
+}
+
+// The same rounded up.
+fn share_up(n: u64, limit: u64, less: u64, u: u64) -> u64
+    requires { ⌜ Share n limit less u ⌝ }
+    ensures { λ r. ⌜ r ≡ ρ-up n limit less u ⌝ }
+{
+    let s = n * 1_000_000;
+    if u <= limit {
+        return s;
+    }
+    let once = wide::ceil_of((u - less) * s, s, u);
+    smaller(s, wide::ceil_of(once, 1, u))
+}
+
+// The part of a web or flange that counts.
+pub fn plane_share(n: u64, u: Pair) -> Pair
+    requires { ⌜ Slim n u ⌝ }
+    ensures { λ r. ⌜ r ≡ ρ-plane n u ⌝ }
+{
+    let limit = n * 673_000;
+    let less = n * 220_000;
+    Pair {
+        lo: share_down(n, limit, less, u.hi),
+        hi: share_up(n, limit, less, u.lo),
+    }
+}
+
+// The part of a lip that counts.
+pub fn lip_share(n: u64, u: Pair) -> Pair
+    requires { ⌜ Slim n u ⌝ }
+    ensures { λ r. ⌜ r ≡ ρ-lip n u ⌝ }
+{
+    let limit = n * 748_000;
+    let less = n * 188_000;
+    Pair {
+        lo: share_down(n, limit, less, u.hi),
+        hi: share_up(n, limit, less, u.lo),
+    }
+}
+
+// The thickness factor below 1.38: 1 up to 0.65, else at most 1.47 - 0.723 * u.
+fn before_down(n: u64, u: u64) -> u64
+    requires { ⌜ Fine n × (u < 1380000 * n) ⌝ }
+    ensures { λ r. ⌜ r ≡ χ-before-down n u ⌝ }
+{
+    let s = n * 1_000_000;
+    if u <= n * 650_000 {
+        return s;
+    }
+    smaller(s, (1470 * s - 723 * u) / 1000)
+}
+
+fn before_up(n: u64, u: u64) -> u64
+    requires { ⌜ Fine n × (u < 1380000 * n) ⌝ }
+    ensures { λ r. ⌜ r ≡ χ-before-up n u ⌝ }
+{
+    let s = n * 1_000_000;
+    if u <= n * 650_000 {
+        return s;
+    }
+    smaller(s, wide::ceil_of(1470 * s - 723 * u, 1, 1000))
+}
+
+// The thickness factor from 1.38: 0.66 / u.
+fn from_down(n: u64, u: u64) -> u64
+    requires { ⌜ Fine n × (1380000 * n ≤ u) × (u ≤ 40000000 * n) ⌝ }
+    ensures { λ r. ⌜ r ≡ χ-from-down n u ⌝ }
+{
+    let s = n * 1_000_000;
+    66 * (s * s) / (100 * u)
+}
+
+fn from_up(n: u64, u: u64) -> u64
+    requires { ⌜ Fine n × (1380000 * n ≤ u) × (u ≤ 40000000 * n) ⌝ }
+    ensures { λ r. ⌜ r ≡ χ-from-up n u ⌝ }
+{
+    let s = n * 1_000_000;
+    wide::ceil_of(66 * (s * s), 1, 100 * u)
+}
+
+// The thickness factor of a pair that lies across 1.38, where the rule jumps up.
+fn factor_across(n: u64, u: Pair) -> Pair
+    requires { ⌜ Slim n u × (u .lo < 1380000 * n) × (1380000 * n ≤ u .hi) ⌝ }
+    ensures { λ r. ⌜ r ≡ χ n u ⌝ }
+{
+    let least = from_down(n, u.hi);
+    let most = before_up(n, u.lo);
+    Pair {
+        lo: smaller(n * 472_260, least),
+        hi: larger(wide::ceil_of(66 * n * 1_000_000, 1, 138), most),
+    }
+}
+
+pub fn factor(n: u64, u: Pair) -> Pair
+    requires { ⌜ Slim n u ⌝ }
+    ensures { λ r. ⌜ r ≡ χ n u ⌝ }
+{
+    let jump = n * 1_380_000;
+    let low = u.lo;
+    let high = u.hi;
+    if high < jump {
+        return Pair {
+            lo: before_down(n, high),
+            hi: before_up(n, low),
+        };
+    }
+    if low < jump {
+        return factor_across(n, u);
+    }
+    Pair {
+        lo: from_down(n, high),
+        hi: from_up(n, low),
+    }
+}

@@ -1,0 +1,99 @@
+// The working of a section, by document 01.
+pub mod coefficients;
+pub mod factors;
+pub mod moments;
+pub mod rounds;
+pub mod sections;
+pub mod stiffeners;
+pub mod widths;
+
+use pair::Pair;
+use pair::signed::Integer;
+use pair::signed::Signed;
+
+// The nominal thickness, with its coating, and the core thickness, in 0.01 mm. Neither is taken
+// for the other.
+pub struct Nominal(pub u64);
+
+pub struct Core(pub u64);
+
+// The numbers of a sheet, lengths in 0.01 mm.
+pub struct Sheet {
+    pub form: u64,
+    pub h: u64,
+    pub b1: u64,
+    pub b2: u64,
+    pub c: u64,
+    pub r: u64,
+    pub tnom: Nominal,
+    pub t: Core,
+    pub fyb: u64,
+    pub gm0: u64,
+    pub rounds: u64,
+    pub allow: u64,
+}
+
+// A flange with its lip: its mid-line width, and u² of flange and lip at full thickness.
+pub struct Flange {
+    pub bp: Pair,
+    pub plane: Pair,
+    pub lip: Pair,
+}
+
+// What counts of a flange at its stiffener: be2, c_eff, and a, their sum.
+pub struct Stiffener {
+    pub be2: Pair,
+    pub c: Pair,
+    pub a: Pair,
+}
+
+// What a round gives: both flanges' stiffeners and thickness factors.
+pub struct Round {
+    pub one: Stiffener,
+    pub two: Stiffener,
+    pub chi1: Pair,
+    pub chi2: Pair,
+}
+
+// What is kept of a section: be1 of each flange, the web's parts p at flange 1 and m at flange 2,
+// each flange's stiffener and its thickness factor.
+pub struct Kept {
+    pub first1: Pair,
+    pub first2: Pair,
+    pub p: Pair,
+    pub m: Pair,
+    pub one: Stiffener,
+    pub two: Stiffener,
+    pub chi1: Pair,
+    pub chi2: Pair,
+}
+
+// The mid-line lengths of a sheet.
+pub struct Lines {
+    pub hp: Pair,
+    pub cp: Pair,
+    pub bp1: Pair,
+    pub bp2: Pair,
+}
+
+// What a working gives: the effective area, both thickness factors, the distance of the neutral
+// axis from flange 1 and that of the gross section, and the shift.
+pub struct Work {
+    pub area: Pair,
+    pub chi1: Pair,
+    pub chi2: Pair,
+    pub z: Signed,
+    pub gross: Signed,
+    pub shift: Signed,
+}
+
+// The printed figures: area in 0.01 mm², axial in newtons, both factors in thousandths, the ends
+// of the shift in 0.01 mm.
+pub struct Figures {
+    pub area: u64,
+    pub axial: u64,
+    pub chi1: u64,
+    pub chi2: u64,
+    pub shiftlo: Integer,
+    pub shifthi: Integer,
+}
