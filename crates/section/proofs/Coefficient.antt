@@ -6,16 +6,17 @@ use native.Mathlib.Nat.{le-refl, le-trans, mul-one, mul-pos, mul-le-mul-right}
 use native.Mathlib.Omega.{arith}
 use borrow.Author.Tests.{leb-true, leb-false}
 use lib.Dec.{leb, lit<, lit≤}
-use Rattle.pair.specs.Pairs.{_to_, minus}
-use Rattle.pair.specs.Enclosure.{Inside, Ordered, Positive, AtLeast, AtMost}
+use Rattle.pair.specs.Pairs.{_to_}
+use Rattle.pair.specs.Enclosure.{Inside, Ordered, Positive, AtMost}
 use Rattle.pair.specs.declared.Pair.{Pair}
-use Rattle.pair.proofs.Laws.{ratio-inside, ratio-positive, ratio-ordered, minus-ordered, times-ordered, cube-root-ordered}
-use Rattle.pair.proofs.Bounds.{exact-at-least, exact-at-most, plus-at-most, minus-at-most, times-at-most, cube-root-at-most, box-wider}
-use Rattle.pair.proofs.Ratios.{ratio-exact}
+use Rattle.pair.proofs.Laws.{ratio-positive, ratio-ordered, minus-ordered, times-ordered, cube-root-ordered}
+use Rattle.pair.proofs.Bounds.{box-wider}
 use Rattle.pair.proofs.Nesting.{inside}
 use Rattle.section.specs.Working.{S, constant, units, k, k-at, k-past}
-use Rattle.section.proofs.Ends.{scale-positive, finer, constant-exact, units-finer}
+use Rattle.section.proofs.Ends.{scale-positive, finer, own-fine, constant-exact, constant-inside, units-finer}
 use Rattle.section.proofs.Rising.{Rises, same-rises, plus-more, rising}
+use Rattle.section.proofs.BoxRooms.{constant-box}
+use Rattle.section.proofs.CoefficientForms.{past-box}
 
 at-ordered : (q : ℕ) → Ordered (q to q)
 at-ordered q = record { ends = le-refl q }
@@ -64,7 +65,7 @@ module _ (n : ℕ) (n⁺ : 0 < n) where
       where
         go : (b c : Bool) → leb q (units n 35 100) ≡ b → leb (q * m) (units (m * n) 35 100) ≡ c
             → Inside m (cond c (constant (m * n) 1 2) (k-past (m * n) (q * m to q * m))) (cond b (constant n 1 2) (k-past n (q to q)))
-        go true true e f = ratio-inside 1 2 (finer m⁺ n⁺) (constant-exact 1 2 n⁺ (lit< tt) refl)
+        go true true e f = constant-inside n⁺ m⁺ 1 2 (lit< tt) refl
         go true false e f = absurd (omega (arith, units-finer m n 35 100 refl, mul-le-mul-right m (leb-true q (units n 35 100) e), leb-false (q * m) (units (m * n) 35 100) f))
         go false true e f = absurd (omega (arith, units-finer m n 35 100 refl, mul-le-mul-right m (leb-false q (units n 35 100) e), leb-true (q * m) (units (m * n) 35 100) f))
         go false false e f = past-inside n⁺ m⁺ (record { low = le-refl _; mid = le-refl _; high = le-refl _ })
@@ -86,28 +87,13 @@ k-positive {n} q n⁺ = record { low = le-trans (ratio-positive (S n) 1 2 (lit< 
 
 -- a box, in millionths
 
-constant-least : (a b v : ℕ) → 0 < b → v * b ≡ a * 1000000 → AtLeast v (constant 1 a b)
-constant-least a b v b⁺ e = rw (ratio-exact 1000000 a b v b⁺ e) (exact-at-least v)
-
-constant-most : (a b v : ℕ) → 0 < b → v * b ≡ a * 1000000 → AtMost v (constant 1 a b)
-constant-most a b v b⁺ e = rw (ratio-exact 1000000 a b v b⁺ e) (exact-at-most v)
-
 k-most : AtMost 830000 (k-at 1 600000)
-unfolding k-at k-past
-k-most =
-    plus-at-most (constant-most 1 2 500000 (lit< tt) refl)
-    (times-at-most 1000000 330000 (lit< tt) (constant-most 83 100 830000 (lit< tt) refl)
-    (cube-root-at-most 1000000 396900
-    (times-at-most 1000000 62500 (lit< tt) less less (lit≤ tt))
-    (lit≤ tt))
-    (lit≤ tt))
-  where
-    less : AtMost 250000 (minus (600000 to 600000) (constant 1 35 100))
-    less = minus-at-most (record { high = le-refl 600000 }) (constant-least 35 100 350000 (lit< tt) refl)
+unfolding k-at
+k-most = record { high = past-box own-fine (lit< tt) (lit≤ tt) .high }
 
 pub k-box : {n a : ℕ} {Q : Pair} → 0 < n → Inside n Q (a to 600000) → Inside n (k n Q) (500000 to 830000)
 unfolding k
 k-box {n} {a} n⁺ i =
     box-wider 500000 830000 (rw (mul-one n) at (k-inside {n = 1} (lit< tt) n⁺ i))
-    (record { low = le-trans (constant-least 1 2 500000 (lit< tt) refl .low) (k-least 1 (lit< tt) a .low) })
+    (record { low = le-trans (constant-box own-fine 1 2 500000 (lit< tt) refl .low) (k-least 1 (lit< tt) a .low) })
     (record { high = k-most .high })

@@ -129,7 +129,13 @@ module _ (n : ℕ) (n⁺ : 0 < n) (m : ℕ) (m⁺ : 0 < m) where
       go false true false true e f g h =
           record {
             low =
-                omega (arith, units-finer m n 47226 100000 refl, min-left (falls-to n) (χ-from-down n b) m, min-right (falls-to n) (χ-from-down n b) m, from-low b B (past (ltb-false B (edge (m * n)) g)) (i .high));
+                omega (
+                  arith,
+                  units-finer m n 47226 100000 refl,
+                  min-left (falls-to n) (χ-from-down n b) m,
+                  min-right (falls-to n) (χ-from-down n b) m,
+                  from-low b B (past (ltb-false B (edge (m * n)) g)) (i .high),
+                );
             mid = omega (arith, jump-mid);
             high = omega (arith, jump-up, before-high a A (i .low), max-left (jumps-to n) (χ-before-up n a) m, max-right (jumps-to n) (χ-before-up n a) m);
           }

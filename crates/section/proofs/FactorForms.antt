@@ -1,7 +1,7 @@
 -- χ at the ends, as the code works it.
-use mathlib.Core.Path.{_≡_, refl, sym, ap, ap₂, _∙_}
-use Prim.Native.Nat.{ℕ, _+_, _-_, _*_, _/_, _^_, _≤_, _<_, min, max}
-use native.Mathlib.Nat.{le-trans, lt-of-le-of-lt, mul-one, mul-le-mul}
+use mathlib.Core.Path.{_≡_, refl, ap, _∙_}
+use Prim.Native.Nat.{ℕ, _-_, _*_, _/_, _^_, _≤_, _<_, min, max}
+use native.Mathlib.Nat.{lt-of-le-of-lt, mul-one, mul-le-mul-left}
 use native.Mathlib.Omega.{arith}
 use borrow.Author.Tests.{le-leb, lt-leb, lt-ltb, le-ltb}
 use Rattle.pair.specs.Rounding.{ceilDiv}
@@ -9,16 +9,8 @@ use Rattle.pair.specs.Pairs.{_to_}
 use Rattle.pair.specs.declared.Pair.{Pair}
 use Rattle.pair.proofs.Quotients.{ceil-le}
 use Rattle.section.specs.Working.{S, units, χ-before-down, χ-before-up, χ-from-down, χ-from-up, χ}
-use Rattle.section.specs.Room.{Fine, Slim}
-
-pub units-65 : (n : ℕ) → n * 650000 ≡ units n 65 100
-units-65 n = omega arith
-
-pub units-138 : (n : ℕ) → n * 1380000 ≡ units n 138 100
-units-138 n = omega arith
-
-pub units-47226 : (n : ℕ) → n * 472260 ≡ units n 47226 100000
-units-47226 n = omega arith
+use Rattle.section.specs.Room.{Fine}
+use Rattle.section.proofs.Ends.{scale-square-most}
 
 module _ (n u : ℕ) where
   pub before-down-full : u ≤ n * 650000 → S n ≡ χ-before-down n u
@@ -47,11 +39,15 @@ module _ (n u : ℕ) where
   from-down-is = refl
 
 pub square-fits : {n : ℕ} → Fine n → 66 * (S n * S n) < 2 ^ 64
-square-fits {n} f = omega (arith, mul-le-mul {n₁ = S n} {m₁ = S n} {n₂ = 10000000} {m₂ = 10000000} (omega (arith, f .most)) (omega (arith, f .most)))
+square-fits {n} f = omega (arith, scale-square-most f)
+
+-- 0.47226, in units
+pub units-47226 : (n : ℕ) → n * 472260 ≡ units n 47226 100000
+units-47226 n = omega arith
 
 -- a number of a word divided by one or more is one too
 pub quotient-fits : (a d : ℕ) → 0 < d → a * 1 < 2 ^ 64 → ceilDiv (a * 1) d < 2 ^ 64
-quotient-fits a d p h = lt-of-le-of-lt (ceil-le {x = a * 1} p (omega (arith, native.Mathlib.Nat.mul-le-mul-left {m = 1} {n = d} (a * 1) p))) h
+quotient-fits a d p h = lt-of-le-of-lt (ceil-le {x = a * 1} p (omega (arith, mul-le-mul-left {m = 1} {n = d} (a * 1) p))) h
 
 module _ (n : ℕ) (u : Pair) where
   pub χ-before : u .hi < n * 1380000 → {a b : ℕ} → a ≡ χ-before-down n (u .hi) → b ≡ χ-before-up n (u .lo) → (a to b) ≡ χ n u
@@ -62,6 +58,7 @@ module _ (n : ℕ) (u : Pair) where
   unfolding χ
   χ-from h o e f = rw (le-ltb (u .hi) (units n 138 100) (omega arith), le-ltb (u .lo) (units n 138 100) (omega arith)) (λ i. e i to f i)
 
-  pub χ-across : u .lo < n * 1380000 → n * 1380000 ≤ u .hi → {a b : ℕ} → a ≡ min (units n 47226 100000) (χ-from-down n (u .hi)) → b ≡ max (ceilDiv (66 * S n) 138) (χ-before-up n (u .lo)) → (a to b) ≡ χ n u
+  pub χ-across : u .lo < n * 1380000 → n * 1380000 ≤ u .hi → {a b : ℕ}
+      → a ≡ min (units n 47226 100000) (χ-from-down n (u .hi)) → b ≡ max (ceilDiv (66 * S n) 138) (χ-before-up n (u .lo)) → (a to b) ≡ χ n u
   unfolding χ
   χ-across h k e f = rw (le-ltb (u .hi) (units n 138 100) (omega arith), lt-ltb (u .lo) (units n 138 100) (omega arith)) (λ i. e i to f i)

@@ -1,20 +1,24 @@
 -- Each formula of the working, worked at m × n, lies inside the same formula worked at n.
 use Prim.Native.Nat.{ℕ, _*_, _<_}
+use mathlib.Core.Path.{refl}
 use native.Mathlib.Nat.{mul-pos, mul-one}
 use native.Mathlib.Omega.{arith}
 use lib.Dec.{lit<}
 use Rattle.pair.specs.Pairs.{ratio, times, over, root}
 use Rattle.pair.specs.Enclosure.{Inside, SignedInside, Positive, AtLeast}
 use Rattle.pair.specs.declared.Pair.{Pair}
+use Rattle.pair.proofs.Laws.{minus-inside}
 use Rattle.pair.proofs.Bounds.{at-least-positive, own-least, exact-at-least, times-at-least}
 use Rattle.pair.proofs.Ratios.{ratio-exact}
 use Rattle.pair.proofs.Nesting as nesting
 use Rattle.section.specs.declared.Flange.{Flange}
 use Rattle.section.specs.declared.Stiffener.{Stiffener}
 use Rattle.section.specs.declared.Kept.{Kept}
-use Rattle.section.specs.Working.{S, whole, mid-line, lip-line, u², ρ-plane, half-kept, flange-of, stiffener-of, g, J, T, kf, D, ud, χ-of, L, lip-moment, flange-moment, far-web-moment, near-web-moment, near-lip-moment, moment, z, full}
+use Rattle.section.specs.Working.{S, whole, mid-line, lip-line, u², ρ-plane, half-kept, flange-of, stiffener-of, g, J, T, kf, D, ud, χ-of, full}
+use Rattle.section.specs.Working.{L, lip-moment, flange-moment, far-web-moment, near-web-moment, near-lip-moment, moment, z}
 use Rattle.section.specs.Nested.{FlangeInside, StiffenerInside, KeptInside}
-use Rattle.section.proofs.Ends.{scale-positive, finer, constant-exact}
+use Rattle.section.specs.Uncut.{taken-off}
+use Rattle.section.proofs.Ends.{scale-positive, finer, constant-exact, constant-inside}
 use Rattle.section.proofs.Shares.{ρ-plane-inside, ρ-lip-inside}
 use Rattle.section.proofs.Factor.{χ-inside}
 use Rattle.section.proofs.Coefficient.{k-inside, k-positive}
@@ -61,9 +65,13 @@ module _ {n m : ℕ} (n⁺ : 0 < n) (m⁺ : 0 < m) where
   unfolding stiffener-of
   stiffener-inside cp f χ₀ = record { be2 = search (inside, half-kept-inside) depth 20; c = search inside depth 20; a = search (inside, half-kept-inside) depth 20 }
 
+  -- what g takes off the width
+  pub taken-off-inside : {s s′ : Stiffener} → Positive (s .a) → StiffenerInside m s′ s → Inside m (taken-off (m * n) s′) (taken-off n s)
+  taken-off-inside a⁺ s = search inside depth 20
+
   pub g-inside : {bp bp′ : Pair} {s s′ : Stiffener} → Positive (s .a) → Inside m bp′ bp → StiffenerInside m s′ s → Inside m (g (m * n) bp′ s′) (g n bp s)
   unfolding g
-  g-inside a⁺ bp s = search inside depth 20
+  g-inside a⁺ bp s = minus-inside bp (taken-off-inside a⁺ s)
 
   pub J-inside : {t t′ : Pair} {s s′ : Stiffener} → Positive (s .a) → Inside m t′ t → StiffenerInside m s′ s → Inside m (J (m * n) t′ s′) (J n t s)
   unfolding J
@@ -126,14 +134,14 @@ module _ {n m : ℕ} (n⁺ : 0 < n) (m⁺ : 0 < m) where
   unfolding z
   z-inside L⁺ hp x = search (nesting.inside, finer, moment-inside, L-inside) depth 20
 
-  half-inside : {w w′ : Pair} → Inside m w′ w → Inside m (over (S (m * n)) w′ (whole (m * n) 2)) (over (S n) w (whole n 2))
+  pub half-inside : {w w′ : Pair} → Inside m w′ w → Inside m (over (S (m * n)) w′ (whole (m * n) 2)) (over (S n) w (whole n 2))
   half-inside w = search inside depth 20
 
   pub full-inside : {hp hp′ cp cp′ bp₁ bp₁′ bp₂ bp₂′ : Pair} → Inside m hp′ hp → Inside m cp′ cp → Inside m bp₁′ bp₁ → Inside m bp₂′ bp₂
       → KeptInside m (full (m * n) hp′ cp′ bp₁′ bp₂′) (full n hp cp bp₁ bp₂)
   unfolding full
   full-inside hp cp bp₁ bp₂ =
-      let one : Inside m (whole (m * n) 1) (whole n 1) = search inside depth 20 in
+      let one = constant-inside n⁺ m⁺ 1 1 (lit< tt) refl in
       record {
         first1 = half-inside bp₁;
         first2 = half-inside bp₂;

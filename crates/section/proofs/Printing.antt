@@ -1,35 +1,32 @@
 -- The printed figures fit a word.
-use mathlib.Core.Path.{_≡_, refl, ap}
-use Prim.Native.Nat.{ℕ, _+_, _*_, _/_, _^_, _≤_, _<_}
-use native.Mathlib.Nat.{le-trans, lt-of-le-of-lt, mul-pos, mul-le-mul, mul-le-mul-left, mul-le-mul-right, div-le-of-le-mul}
+use mathlib.Core.Path.{_≡_, ap}
+use Prim.Native.Nat.{ℕ, _*_, _/_, _^_, _≤_, _<_}
+use native.Mathlib.Nat.{lt-of-le-of-lt, mul-pos, mul-le-mul, mul-le-mul-left, div-le-of-le-mul}
 use native.Mathlib.Omega.{arith}
 use Rattle.pair.specs.Rounding.{ceilDiv}
-use Rattle.pair.specs.declared.Pair.{Pair}
 use Rattle.pair.proofs.Quotients.{ceil-le}
 use Rattle.section.specs.declared.Sheet.{Sheet}
-use Rattle.section.specs.Sheets.{Sound}
-use Rattle.pair.specs.Pairs.{_to_, times}
-use Rattle.pair.specs.Enclosure.{Inside}
-use Rattle.pair.proofs.Bounds.{times-box}
-use Rattle.section.specs.Working.{S, mm, L, Worked, worked}
 use Rattle.section.specs.declared.Work.{Work}
-use Rattle.section.specs.Forms.{workedOf}
+use Rattle.section.specs.Sheets.{Sound}
+use Rattle.section.specs.Working.{S, Worked, worked}
 use Rattle.section.specs.Figures.{printed, figures}
-use Rattle.section.specs.Room.{Fine, effective-of}
-use Rattle.section.proofs.CoefficientForms.{scale}
-use Rattle.section.proofs.BoxRooms.{mm-box}
-use Rattle.section.proofs.SheetNumbers.{web-numbers}
+use Rattle.section.specs.Forms.{workedOf}
+use Rattle.section.specs.Room.{Fine}
+use Rattle.section.proofs.Ends.{scale-most}
+use Rattle.section.proofs.SheetNumbers.{section-numbers}
 use Rattle.section.proofs.SizesOfSheets.{sheet-effective-box}
-use Rattle.section.proofs.SizesOfMoments.{length-box}
+use Rattle.section.proofs.SizesOfAxis.{area-box}
 
 -- a word times k over a scale of at least k is a word
+
+up-to-scale : (n x k : ℕ) → Fine n → k ≤ 1000000 → x * k ≤ x * S n
+up-to-scale n x k f h = mul-le-mul-left x (omega (arith, f .some))
+
 pub floor-word : (n x k : ℕ) → Fine n → k ≤ 1000000 → x < 2 ^ 64 → (0 < S n) × (x * k / S n < 2 ^ 64)
-floor-word n x k f h l =
-    (omega (arith, f .some), lt-of-le-of-lt (div-le-of-le-mul (S n) (omega (arith, mul-le-mul-left x (le-trans h (mul-le-mul-right {m = 1} {n = n} 1000000 (f .some)))))) l)
+floor-word n x k f h l = (omega (arith, f .some), lt-of-le-of-lt (div-le-of-le-mul (S n) (omega (arith, up-to-scale n x k f h))) l)
 
 pub ceil-word : (n x k : ℕ) → Fine n → k ≤ 1000000 → x < 2 ^ 64 → (0 < S n) × (ceilDiv (x * k) (S n) < 2 ^ 64)
-ceil-word n x k f h l =
-    (omega (arith, f .some), lt-of-le-of-lt (ceil-le {x = x} (omega (arith, f .some)) (omega (arith, mul-le-mul-left x (le-trans h (mul-le-mul-right {m = 1} {n = n} 1000000 (f .some)))))) l)
+ceil-word n x k f h l = (omega (arith, f .some), lt-of-le-of-lt (ceil-le {x = x} (omega (arith, f .some)) (omega (arith, up-to-scale n x k f h))) l)
 
 -- x × fyb × 1000 ÷ (gm0 × S), for x of at most 6840 mm²
 pub axial-word : (n fyb x : ℕ) → Fine n → fyb ≤ 700 → x ≤ 6840000000 * n → (x * fyb < 2 ^ 64) × (x * fyb * 1000 < 2 ^ 64)
@@ -39,14 +36,13 @@ axial-word n fyb x f h k =
 
 pub factor-word : (n gm0 : ℕ) → Fine n → 1000 ≤ gm0 → gm0 ≤ 1500 → (0 < gm0 * S n) × (gm0 * S n < 2 ^ 64)
 factor-word n gm0 f l h =
-    (mul-pos {m = gm0} {n = S n} (omega arith) (omega (arith, f .some)), omega (arith, mul-le-mul {n₁ = gm0} {m₁ = S n} {n₂ = 1500} {m₂ = 10000000} h (omega (arith, f .most))))
+    (mul-pos {m = gm0} {n = S n} (omega arith) (omega (arith, f .some)), omega (arith, mul-le-mul {n₁ = gm0} {m₁ = S n} {n₂ = 1500} {m₂ = 10000000} h (scale-most f)))
 
 -- the area of a sheet's working is at most 6840 mm²
-pub area-most : {n : ℕ} {q : Sheet} → Fine n → Sound q → ((worked n q) .area .lo ≤ (worked n q) .area .hi) × ((worked n q) .area .hi ≤ 6840000000 * n)
+area-most : {n : ℕ} {q : Sheet} → Fine n → Sound q → ((worked n q) .area .lo ≤ (worked n q) .area .hi) × ((worked n q) .area .hi ≤ 6840000000 * n)
 unfolding worked
 area-most {n} {q} f s =
-    let box : Inside n (times (S n) (mm n (q .t .0)) (L n (effective-of n q))) (0 to 6840000000) =
-    times-box 0 6840000000 (scale f) (mm-box f (q .t .0)) (length-box f (web-numbers s .high) (sheet-effective-box s f)) (omega arith) (omega (arith, s .q2 .t .high)) in
+    let box = area-box f (section-numbers s .web .high) (q .t .0) (s .q2 .t .high) (sheet-effective-box s f) in
     (box .mid, box .high)
 
 -- the parts of what the code's form stands for

@@ -1,19 +1,14 @@
 -- ρ at one end, as the code works it: dividing twice by u, where nothing passes a word.
-use mathlib.Core.Path.{_≡_, refl, sym, ap, ap₂, _∙_}
-use Prim.Native.Nat.{ℕ, _+_, _-_, _*_, _/_, _^_, _≤_, _<_, min}
-use native.Mathlib.Nat.{le-trans, le-refl, lt-of-le-of-lt, mul-assoc, mul-comm, mul-one, mul-le-mul, mul-le-mul-right, mul-le-mul-left, div-div-eq-div-mul, div-le-of-le-mul, sub-le}
+use mathlib.Core.Path.{_≡_, ap, _∙_}
+use Prim.Native.Nat.{ℕ, _-_, _*_, _/_, _^_, _≤_, _<_, min}
+use native.Mathlib.Nat.{lt-of-le-of-lt, mul-assoc, mul-one, mul-le-mul, mul-le-mul-right, mul-le-mul-left, div-div-eq-div-mul, div-le-of-le-mul, sub-le}
 use native.Mathlib.Omega.{arith}
 use borrow.Author.Tests.{le-leb, lt-leb}
 use Rattle.pair.specs.Rounding.{ceilDiv}
 use Rattle.pair.proofs.Quotients.{ceil-le, ceil-twice}
 use Rattle.section.specs.Working.{S, units, ρ-down, ρ-up}
-use Rattle.section.specs.Room.{Fine, Share, Slim}
-
-scale-most : {n : ℕ} → Fine n → S n ≤ 10000000
-scale-most f = omega (arith, f .most)
-
-square-most : {n : ℕ} → Fine n → S n * S n ≤ 100000000000000
-square-most f = mul-le-mul (scale-most f) (scale-most f)
+use Rattle.section.specs.Room.{Share}
+use Rattle.section.proofs.Ends.{scale-most, scale-square-most}
 
 module _ {n limit less u : ℕ} (r : Share n limit less u) where
   pub dividend-fits : (u - less) * S n < 2 ^ 64
@@ -25,15 +20,15 @@ module _ {n limit less u : ℕ} (r : Share n limit less u) where
 
   pub once-down : limit < u → (0 < u) × ((u - less) * S n * S n / u < 2 ^ 64)
   once-down h =
-      (omega arith, lt-of-le-of-lt {m = S n * S n} (div-le-of-le-mul u (omega (arith, below-square))) (omega (arith, square-most (r .fine))))
+      (omega arith, lt-of-le-of-lt {m = S n * S n} (div-le-of-le-mul u (omega (arith, below-square))) (omega (arith, scale-square-most (r .fine))))
 
   pub once-up : limit < u → (0 < u) × (ceilDiv ((u - less) * S n * S n) u < 2 ^ 64)
-  once-up h = (omega arith, lt-of-le-of-lt (ceil-le (omega arith) below-square) (omega (arith, square-most (r .fine))))
+  once-up h = (omega arith, lt-of-le-of-lt (ceil-le (omega arith) below-square) (omega (arith, scale-square-most (r .fine))))
 
   pub again-up : limit < u → {once : ℕ} → once ≡ ceilDiv ((u - less) * S n * S n) u → (0 < u) × (ceilDiv (once * 1) u < 2 ^ 64)
   again-up h {once} e =
       let once-most : once ≤ S n * S n = rw e (ceil-le (omega arith) below-square) in
-      (omega arith, lt-of-le-of-lt (ceil-le {x = once} (omega arith) (omega (arith, mul-le-mul-left {m = 1} {n = u} once (omega arith)))) (omega (arith, square-most (r .fine))))
+      (omega arith, lt-of-le-of-lt (ceil-le {x = once} (omega arith) (omega (arith, mul-le-mul-left {m = 1} {n = u} once (omega arith)))) (omega (arith, scale-square-most (r .fine))))
 
   pub full-down : u ≤ limit → S n ≡ ρ-down n limit less u
   unfolding ρ-down

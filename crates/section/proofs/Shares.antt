@@ -25,7 +25,7 @@ falls-by c h d v u e f =
     let k : u - c ≡ c + h + d = omega arith in
     rw (g, k, ← f, ← e) (falls-at c h d)
 
-pub falls : (c v u : ℕ) → 2 * c ≤ v → v ≤ u → (u - c) * (v * v) ≤ (v - c) * (u * u)
+falls : (c v u : ℕ) → 2 * c ≤ v → v ≤ u → (u - c) * (v * v) ≤ (v - c) * (u * u)
 falls c v u p q = falls-by c (le-dest p .0) (le-dest q .0) v u (le-dest p .1) (le-dest q .1)
 
 -- ρ at two scales: one law over its limit and over what it takes off, at most half the limit
@@ -111,11 +111,11 @@ unfolding ρ ρ-up
     go true = omega arith
     go false = min-le-left _ _
 
-pub ρ-plane-most : (n : ℕ) (u : Pair) → AtMost (n * 1000000) (ρ-plane n u)
+ρ-plane-most : (n : ℕ) (u : Pair) → AtMost (n * 1000000) (ρ-plane n u)
 unfolding ρ-plane
 ρ-plane-most n u = ρ-most n _ _ u
 
-pub ρ-lip-most : (n : ℕ) (u : Pair) → AtMost (n * 1000000) (ρ-lip n u)
+ρ-lip-most : (n : ℕ) (u : Pair) → AtMost (n * 1000000) (ρ-lip n u)
 unfolding ρ-lip
 ρ-lip-most n u = ρ-most n _ _ u
 

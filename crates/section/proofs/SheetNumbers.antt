@@ -1,16 +1,15 @@
 -- The numbers of a sheet that meets the questions, and its mid-line lengths: their boxes, and the room of their operations.
 use Prim.Native.Nat.{ℕ, _+_, _-_, _*_, _≤_}
-use mathlib.Core.Path.{refl}
 use native.Mathlib.Omega.{arith}
 use lib.Dec.{lit<}
-use Rattle.pair.specs.Pairs.{_to_}
+use Rattle.pair.specs.Pairs.{_to_, over}
 use Rattle.pair.specs.Enclosure.{Inside}
 use Rattle.pair.proofs.Bounds.{minus-box, minus-fits}
 use Rattle.section.specs.declared.Sheet.{Sheet}
 use Rattle.section.specs.Sheets.{Sound}
-use Rattle.section.specs.Working.{mm, mid-line, lip-line}
-use Rattle.section.specs.Room.{Fine, MidRoom, LipRoom, hp-of}
-use Rattle.section.proofs.BoxRooms.{wider, mm-box, half-box, ratio-room, over-by}
+use Rattle.section.specs.Working.{S, mm, whole, mid-line, lip-line}
+use Rattle.section.specs.Room.{Fine, MidRoom, LipRoom}
+use Rattle.section.proofs.BoxRooms.{wider, mm-box, half-box, ratio-room, over-two}
 
 -- a web: core thickness t and depth d between mid-lines, in 0.01 mm
 pub record WebNumbers (t fyb d : ℕ) : Type 0 where
@@ -34,6 +33,13 @@ pub record FlangeNumbers (t fyb γ β : ℕ) : Type 0 where
   pub slim : β ≤ 60 * t
   pub ratio : 5 * γ ≤ 6 * β
 
+-- a section: depth d and widths β₁ and β₂ between mid-lines, in 0.01 mm, and lips of γ, in 0.005 mm; near: a of flange 2 is at most six times a of flange 1
+pub record SectionNumbers (t fyb d γ β₁ β₂ : ℕ) : Type 0 where
+  pub web : WebNumbers t fyb d
+  pub one : FlangeNumbers t fyb γ β₁
+  pub two : FlangeNumbers t fyb γ β₂
+  pub near : 5000 * β₂ ≤ 14400 * β₁ + 4000 * γ
+
 module _ {n : ℕ} (f : Fine n) where
   -- mid-line lengths
 
@@ -49,34 +55,27 @@ module _ {n : ℕ} (f : Fine n) where
     less = minus-fits (mm-box f w) (mm-box f v) (omega arith);
   }
 
+  half-mm-box : (v : ℕ) → Inside n (over (S n) (mm n v) (whole n 2)) (5000 * v to 5000 * v)
+  half-mm-box v = half-box f (5000 * v) (5000 * v) (mm-box f v) (omega arith) (omega arith)
+
   pub lip-line-box : (w v : ℕ) → Inside n (lip-line n w v) (5000 * (2 * w - v) to 5000 * (2 * w - v))
   unfolding lip-line
-  lip-line-box w v = wider (5000 * (2 * w - v)) (5000 * (2 * w - v)) (omega arith) (omega arith) (minus-box (mm-box f w) (half-box f v (mm-box f v)))
+  lip-line-box w v = wider (5000 * (2 * w - v)) (5000 * (2 * w - v)) (omega arith) (omega arith) (minus-box (mm-box f w) (half-mm-box v))
 
   pub lip-line-room : (w v : ℕ) → w ≤ 50000 → v ≤ 2 * w → LipRoom n w v
   lip-line-room w v h k = record {
     fine = f;
     outer = ratio-room f w 100 (lit< tt) (omega arith);
     nominal = ratio-room f v 100 (lit< tt) (omega arith);
-    half = over-by f (mm n v) 2 1 (lit< tt) (lit< tt) refl (half-box f v (mm-box f v)) (omega arith);
-    less = minus-fits (mm-box f w) (half-box f v (mm-box f v)) (omega arith);
+    half = over-two f (mm n v) (mm-box f v) (omega arith);
+    less = minus-fits (mm-box f w) (half-mm-box v) (omega arith);
   }
 
 -- what the questions say of the web and of each flange
 
 module _ {q : Sheet} (s : Sound q) where
-  pub web-numbers : WebNumbers (q .t .0) (q .fyb) (q .h - q .tnom .0)
-  web-numbers = omega arith
-
-  pub flange₁-numbers : FlangeNumbers (q .t .0) (q .fyb) (2 * q .c - q .tnom .0) (q .b1 - q .tnom .0)
-  flange₁-numbers = omega arith
-
-  pub flange₂-numbers : FlangeNumbers (q .t .0) (q .fyb) (2 * q .c - q .tnom .0) (q .b2 - q .tnom .0)
-  flange₂-numbers = omega arith
-
-  -- the flanges' widths do not lie far apart: a of flange 2 is at most six times a of flange 1
-  pub near-numbers : 5000 * (q .b2 - q .tnom .0) ≤ 14400 * (q .b1 - q .tnom .0) + 4000 * (2 * q .c - q .tnom .0)
-  near-numbers = omega arith
+  pub section-numbers : SectionNumbers (q .t .0) (q .fyb) (q .h - q .tnom .0) (2 * q .c - q .tnom .0) (q .b1 - q .tnom .0) (q .b2 - q .tnom .0)
+  section-numbers = record { web = omega arith; one = omega arith; two = omega arith; near = omega arith }
 
   module _ {n : ℕ} (f : Fine n) where
     pub hp-room : MidRoom n (q .h) (q .tnom .0)
@@ -90,6 +89,3 @@ module _ {q : Sheet} (s : Sound q) where
 
     pub cp-room : LipRoom n (q .c) (q .tnom .0)
     cp-room = lip-line-room f (q .c) (q .tnom .0) (omega arith) (omega arith)
-
-    pub hp-wide : Inside n (hp-of n q) (34000000 to 499500000)
-    hp-wide = wider 34000000 499500000 (omega arith) (omega arith) (mid-line-box f (q .h) (q .tnom .0))

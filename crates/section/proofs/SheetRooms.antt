@@ -1,21 +1,15 @@
 -- Every operation of the working of a sheet that meets the questions has room, at our scale and up to ten times it.
-use Prim.Native.Nat.{ℕ, _-_, _*_, _≤_}
-use native.Mathlib.Omega.{arith}
-use Rattle.pair.specs.Pairs.{_to_}
-use Rattle.pair.specs.Enclosure.{Inside}
+use Prim.Native.Nat.{ℕ}
 use Rattle.section.specs.declared.Sheet.{Sheet}
 use Rattle.section.specs.Sheets.{Sound}
-use Rattle.section.specs.Working.{S, mm, L, worked}
-use Rattle.section.specs.Room.{Fine, SheetRoom, effective-of}
-use Rattle.section.proofs.SheetNumbers.{hp-room, bp₁-room, bp₂-room, cp-room, web-numbers, flange₁-numbers, flange₂-numbers}
+use Rattle.section.specs.Room.{Fine, SheetRoom}
+use Rattle.section.proofs.SheetNumbers.{section-numbers, hp-room, bp₁-room, bp₂-room, cp-room}
 use Rattle.section.proofs.SizesOfSheets.{hp-box, cp-box, bp₁-box, bp₂-box, flange₁-room, flange₂-room, sheet-effective-room, sheet-effective-box, sheet-full-box}
 use Rattle.section.proofs.SizesOfAxis.{axis-room, shift-room, area-room, full-room}
 
 pub sheet-room : {n : ℕ} {q : Sheet} → Fine n → Sound q → SheetRoom n q
 sheet-room {n} {q} f s =
-    let depth = web-numbers s .high in
-    let one = flange₁-numbers s in
-    let two = flange₂-numbers s in
+    let depth = section-numbers s .web .high in
     record {
       fine = f;
       hp = hp-room s f;
@@ -26,7 +20,7 @@ sheet-room {n} {q} f s =
       flange₂ = flange₂-room s f;
       effective = sheet-effective-room s f;
       axis = axis-room f depth (hp-box s f) (sheet-effective-box s f);
-      full = full-room f _ _ _ _ depth (one .low) (one .high) (two .low) (two .high) (one .lip-low) (one .lip-high) (hp-box s f) (cp-box s f) (bp₁-box s f) (bp₂-box s f);
+      full = full-room f (section-numbers s) (hp-box s f) (cp-box s f) (bp₁-box s f) (bp₂-box s f);
       gross = axis-room f depth (hp-box s f) (sheet-full-box s f);
       area = area-room f depth (q .t .0) (s .q2 .t .high) (sheet-effective-box s f);
       shift = shift-room f depth (hp-box s f) (sheet-effective-box s f) (sheet-full-box s f);

@@ -10,7 +10,7 @@ use Rattle.pair.specs.declared.Pair.{Pair}
 use Rattle.pair.proofs.Bounds.{plus-box, times-box, over-box, root-box}
 use Rattle.section.specs.Working.{S, constant, whole, D, ud}
 use Rattle.section.specs.Room.{Fine, BendRoom, UdRoom}
-use Rattle.section.proofs.CoefficientForms.{scale}
+use Rattle.section.proofs.Ends.{scale}
 use Rattle.section.proofs.BoxRooms.{wider, constant-box, whole-box, plus-room, times-room, over-room, root-room, times-by, by-times, over-by}
 
 module _ (n : ℕ) where
@@ -70,7 +70,8 @@ module _ (n : ℕ) where
         }
 
   -- ud, at most 33.5, where D÷J is at most 28,300,000 for every thickness
-  module _ (f : Fine n) (t : ℕ) {D J T : Pair} (t⁺ : 0 < t) (D-in : Inside n D (0 to 792000000 * (t * t))) (J-in : Inside n J (28 * (t * t) to 11053391240000)) (T-in : Inside n T (0 to 220000000)) where
+  module _ (f : Fine n) (t : ℕ) {D J T : Pair} (t⁺ : 0 < t) (D-in : Inside n D (0 to 792000000 * (t * t)))
+      (J-in : Inside n J (28 * (t * t) to 11053391240000)) (T-in : Inside n T (0 to 220000000)) where
     J⁺ : 0 < 28 * (t * t)
     J⁺ = omega (arith, mul-pos t⁺ t⁺)
 

@@ -6,16 +6,16 @@ use Rattle.pair.specs.Pairs.{_to_, times, over}
 use Rattle.pair.specs.SignedPairs.{signed}
 use Rattle.pair.specs.Enclosure.{Inside, Positive, Reaches}
 use Rattle.pair.specs.declared.Pair.{Pair}
-use Rattle.pair.proofs.Laws.{fine-positive, inside-ordered, positive-inside}
+use Rattle.pair.proofs.Laws.{fine-positive, inside-ordered}
 use Rattle.pair.proofs.Bounds.{plus-box, minus-box, times-box, minus-fits}
 use Rattle.pair.proofs.SignedLaws.{signed-ordered, difference-ordered}
 use Rattle.pair.proofs.SignedBounds.{signed-times-reaches, signed-times-fits}
 use Rattle.section.specs.declared.Kept.{Kept}
 use Rattle.section.specs.Working.{_⊕_, _⊖_, _⊞_, S, whole, L, lip-moment, flange-moment, far-web-moment, near-web-moment, near-lip-moment, moment}
 use Rattle.section.specs.Room.{Fine, FixedRoom, LengthRoom, LipMomentRoom, FlangeMomentRoom, FarWebRoom, NearWebRoom, NearLipRoom, outer, OuterRoom, WebRoom, MomentRoom}
-use Rattle.section.proofs.CoefficientForms.{scale, word-at}
-use Rattle.section.proofs.KeptBoxes.{KeptBox}
-use Rattle.section.proofs.RoomSteps.{wider, sum-fits, product-fits, half-box, half-fits, signed-reach, difference-reach, signed-sum-reach, signed-sum-fits}
+use Rattle.section.proofs.Ends.{scale, word-at}
+use Rattle.section.proofs.KeptBoxes.{KeptBox, lip-square-box}
+use Rattle.section.proofs.BoxRooms.{wider, box-positive, plus-room, times-room, half-box, over-two, signed-reach, difference-reach, signed-plus-reach, signed-plus-room}
 
 module _ {n : ℕ} (f : Fine n) where
   infixl 7 _⊗_
@@ -30,10 +30,10 @@ module _ {n : ℕ} (f : Fine n) where
 
   module _ {d : ℕ} (most : d ≤ 49950) {x : Kept} (K : KeptBox n d x) where
     near-part-box : Inside n (x .p) (0 to 250000000)
-    near-part-box = wider 0 250000000 (K .p) (lit≤ tt) (omega arith)
+    near-part-box = wider 0 250000000 (lit≤ tt) (omega arith) (K .p)
 
     far-part-box : Inside n (x .m) (0 to 250000000)
-    far-part-box = wider 0 250000000 (K .m) (lit≤ tt) (omega arith)
+    far-part-box = wider 0 250000000 (lit≤ tt) (omega arith) (K .m)
 
     flanges-box : Inside n (x .first1 ⊕ x .first2) (6720000 to 200000000)
     flanges-box = plus-box (K .first1) (K .first2)
@@ -45,10 +45,10 @@ module _ {n : ℕ} (f : Fine n) where
     far-box = plus-box near-box far-part-box
 
     one-box : Inside n (x .one .a ⊗ x .chi1) (0 to 220000000)
-    one-box = times-box 0 220000000 (scale f) (K .one-a) (K .chi1) (lit≤ tt) (lit≤ tt)
+    one-box = times-box 0 220000000 (scale f) (K .one .a) (K .chi1) (lit≤ tt) (lit≤ tt)
 
     two-box : Inside n (x .two .a ⊗ x .chi2) (0 to 220000000)
-    two-box = times-box 0 220000000 (scale f) (K .two-a) (K .chi2) (lit≤ tt) (lit≤ tt)
+    two-box = times-box 0 220000000 (scale f) (K .two .a) (K .chi2) (lit≤ tt) (lit≤ tt)
 
     first-box : Inside n (x .first1 ⊕ x .first2 ⊕ x .p ⊕ x .m ⊕ x .one .a ⊗ x .chi1) (6720000 to 920000000)
     first-box = plus-box far-box one-box
@@ -58,13 +58,13 @@ module _ {n : ℕ} (f : Fine n) where
     length-box = plus-box first-box two-box
 
     pub length-positive : Positive (L n x)
-    length-positive = positive-inside (f .some) length-box (record { low = lit< tt })
+    length-positive = box-positive f (lit< tt) length-box
 
     pub fixed-room : FixedRoom n x
     fixed-room = record {
-      flanges = sum-fits f _ _ flanges-box (lit≤ tt);
-      near = sum-fits f _ _ near-box (lit≤ tt);
-      far = sum-fits f _ _ far-box (lit≤ tt);
+      flanges = plus-room f _ _ flanges-box (lit≤ tt);
+      near = plus-room f _ _ near-box (lit≤ tt);
+      far = plus-room f _ _ far-box (lit≤ tt);
     }
 
     pub length-room : LengthRoom n x
@@ -72,10 +72,10 @@ module _ {n : ℕ} (f : Fine n) where
     length-room = record {
       fine = f;
       fixed = fixed-room;
-      one = product-fits f _ _ one-box (lit≤ tt);
-      two = product-fits f _ _ two-box (lit≤ tt);
-      first = sum-fits f _ _ first-box (lit≤ tt);
-      second = sum-fits f _ _ length-box (lit≤ tt);
+      one = times-room f _ _ one-box (lit≤ tt);
+      two = times-room f _ _ two-box (lit≤ tt);
+      first = plus-room f _ _ first-box (lit≤ tt);
+      second = plus-room f _ _ length-box (lit≤ tt);
     }
 
   -- Moments
@@ -90,8 +90,8 @@ module _ {n : ℕ} (f : Fine n) where
     pub lip-moment-room : LipMomentRoom n hp c χ
     lip-moment-room = record {
       fine = f;
-      force = product-fits f c χ force-box (lit≤ tt);
-      half = half-fits f c C (lit≤ tt);
+      force = times-room f c χ force-box (lit≤ tt);
+      half = over-two f c C (lit≤ tt);
       product = signed-times-fits {c = 60000000000 * n} (fine-positive (scale f)) (difference-ordered (inside-ordered H) (inside-ordered half-lip-box)) (signed-ordered (inside-ordered force-box))
           (difference-reach f H half-lip-box) (signed-reach f force-box) (omega arith) (word-at 60000000000 f (lit≤ tt));
     }
@@ -115,9 +115,9 @@ module _ {n : ℕ} (f : Fine n) where
     unfolding flange-moment
     flange-moment-room = record {
       fine = f;
-      part = product-fits f be2 χ part-box (lit≤ tt);
-      sum = sum-fits f _ be1 width-box (lit≤ tt);
-      depth = product-fits f hp _ flange-moment-box (lit≤ tt);
+      part = times-room f be2 χ part-box (lit≤ tt);
+      sum = plus-room f _ be1 width-box (lit≤ tt);
+      depth = times-room f hp _ flange-moment-box (lit≤ tt);
     }
 
   -- the web's part at flange 2 is at most half the web, so hp − he÷2 is not cut
@@ -126,10 +126,10 @@ module _ {n : ℕ} (f : Fine n) where
     half-web-box = half-box f 0 (2500 * d) M (lit≤ tt) (omega arith)
 
     web-arm-box : Inside n (hp ⊖ half m) (0 to 500000000)
-    web-arm-box = wider 0 500000000 (minus-box H half-web-box) (omega arith) (omega arith)
+    web-arm-box = wider 0 500000000 (omega arith) (omega arith) (minus-box H half-web-box)
 
     web-part-box : Inside n m (0 to 250000000)
-    web-part-box = wider 0 250000000 M (lit≤ tt) (omega arith)
+    web-part-box = wider 0 250000000 (lit≤ tt) (omega arith) M
 
     pub far-web-box : Inside n (far-web-moment n hp m) (0 to 125000000000)
     unfolding far-web-moment
@@ -139,9 +139,9 @@ module _ {n : ℕ} (f : Fine n) where
     unfolding far-web-moment
     far-web-room = record {
       fine = f;
-      half = half-fits f m web-part-box (lit≤ tt);
+      half = over-two f m web-part-box (lit≤ tt);
       less = minus-fits H half-web-box (omega arith);
-      product = product-fits f m _ far-web-box (lit≤ tt);
+      product = times-room f m _ far-web-box (lit≤ tt);
     }
 
   module _ {p : Pair} (P : Inside n p (0 to 250000000)) where
@@ -153,14 +153,11 @@ module _ {n : ℕ} (f : Fine n) where
     near-web-box = half-box f 0 31250000000 web-square-box (lit≤ tt) (lit≤ tt)
 
     pub near-web-room : NearWebRoom n p
-    near-web-room = record { fine = f; square = product-fits f p p web-square-box (lit≤ tt); half = half-fits f _ web-square-box (lit≤ tt) }
+    near-web-room = record { fine = f; square = times-room f p p web-square-box (lit≤ tt); half = over-two f _ web-square-box (lit≤ tt) }
 
   module _ {c χ : Pair} (C : Inside n c (600000 to 120000000)) (X : Inside n χ (0 to 1000000)) where
-    lip-square-box : Inside n (c ⊗ c) (0 to 14400000000)
-    lip-square-box = times-box 0 14400000000 (scale f) C C (lit≤ tt) (lit≤ tt)
-
     lip-factor-box : Inside n (c ⊗ c ⊗ χ) (0 to 14400000000)
-    lip-factor-box = times-box 0 14400000000 (scale f) lip-square-box X (lit≤ tt) (lit≤ tt)
+    lip-factor-box = times-box 0 14400000000 (scale f) (lip-square-box f C) X (lit≤ tt) (lit≤ tt)
 
     pub near-lip-box : Inside n (near-lip-moment n c χ) (0 to 7200000000)
     unfolding near-lip-moment
@@ -169,22 +166,22 @@ module _ {n : ℕ} (f : Fine n) where
     pub near-lip-room : NearLipRoom n c χ
     near-lip-room = record {
       fine = f;
-      square = product-fits f c c lip-square-box (lit≤ tt);
-      factor = product-fits f _ χ lip-factor-box (lit≤ tt);
-      half = half-fits f _ lip-factor-box (lit≤ tt);
+      square = times-room f c c (lip-square-box f C) (lit≤ tt);
+      factor = times-room f _ χ lip-factor-box (lit≤ tt);
+      half = over-two f _ lip-factor-box (lit≤ tt);
     }
 
   -- Their sum
 
   module _ {d : ℕ} (most : d ≤ 49950) {hp : Pair} (H : Inside n hp (10000 * d to 10000 * d)) {x : Kept} (K : KeptBox n d x) where
     depth-box : Inside n hp (0 to 500000000)
-    depth-box = wider 0 500000000 H (omega arith) (omega arith)
+    depth-box = wider 0 500000000 (omega arith) (omega arith) H
 
     lip-reaches : Reaches (60000000000 * n) (lip-moment n hp (x .two .c) (x .chi2))
-    lip-reaches = lip-moment-reaches depth-box (K .two-c) (K .chi2)
+    lip-reaches = lip-moment-reaches depth-box (K .two .c) (K .chi2)
 
     flange-reaches : Reaches (100000000000 * n) (signed (flange-moment n hp (x .first2) (x .two .be2) (x .chi2)))
-    flange-reaches = signed-reach f (flange-moment-box depth-box (K .first2) (K .two-be2) (K .chi2))
+    flange-reaches = signed-reach f (flange-moment-box depth-box (K .first2) (K .two .be2) (K .chi2))
 
     far-reaches : Reaches (125000000000 * n) (signed (far-web-moment n hp (x .m)))
     far-reaches = signed-reach f (far-web-box d most H (K .m))
@@ -193,40 +190,40 @@ module _ {n : ℕ} (f : Fine n) where
     near-reaches = signed-reach f (near-web-box (near-part-box most K))
 
     near-lip-reaches : Reaches (7200000000 * n) (signed (near-lip-moment n (x .one .c) (x .chi1)))
-    near-lip-reaches = signed-reach f (near-lip-box (K .one-c) (K .chi1))
+    near-lip-reaches = signed-reach f (near-lip-box (K .one .c) (K .chi1))
 
     outer-reaches : Reaches (160000000000 * n) (outer n hp x)
-    outer-reaches = signed-sum-reach n 60000000000 100000000000 lip-reaches flange-reaches
+    outer-reaches = signed-plus-reach f 60000000000 100000000000 lip-reaches flange-reaches
 
     first-reaches : Reaches (285000000000 * n) (outer n hp x ⊞ far-web-moment n hp (x .m))
-    first-reaches = signed-sum-reach n 160000000000 125000000000 outer-reaches far-reaches
+    first-reaches = signed-plus-reach f 160000000000 125000000000 outer-reaches far-reaches
 
     second-reaches : Reaches (316250000000 * n) (outer n hp x ⊞ far-web-moment n hp (x .m) ⊞ near-web-moment n (x .p))
-    second-reaches = signed-sum-reach n 285000000000 31250000000 first-reaches near-reaches
+    second-reaches = signed-plus-reach f 285000000000 31250000000 first-reaches near-reaches
 
     pub moment-reaches : Reaches (323450000000 * n) (moment n hp x)
     unfolding moment
-    moment-reaches = signed-sum-reach n 316250000000 7200000000 second-reaches near-lip-reaches
+    moment-reaches = signed-plus-reach f 316250000000 7200000000 second-reaches near-lip-reaches
 
     pub outer-room : OuterRoom n hp x
     outer-room = record {
-      lip = lip-moment-room depth-box (K .two-c) (K .chi2);
-      flange = flange-moment-room depth-box (K .first2) (K .two-be2) (K .chi2);
-      sum = signed-sum-fits f 60000000000 100000000000 lip-reaches flange-reaches (lit≤ tt);
+      lip = lip-moment-room depth-box (K .two .c) (K .chi2);
+      flange = flange-moment-room depth-box (K .first2) (K .two .be2) (K .chi2);
+      sum = signed-plus-room f 60000000000 100000000000 lip-reaches flange-reaches (lit≤ tt);
     }
 
     pub web-room : WebRoom n hp (x .p) (x .m) (outer n hp x)
     web-room = record {
       far = far-web-room d most H (K .m);
       near = near-web-room (near-part-box most K);
-      first = signed-sum-fits f 160000000000 125000000000 outer-reaches far-reaches (lit≤ tt);
-      second = signed-sum-fits f 285000000000 31250000000 first-reaches near-reaches (lit≤ tt);
+      first = signed-plus-room f 160000000000 125000000000 outer-reaches far-reaches (lit≤ tt);
+      second = signed-plus-room f 285000000000 31250000000 first-reaches near-reaches (lit≤ tt);
     }
 
     pub moment-room : MomentRoom n hp x
     moment-room = record {
       outer-room = outer-room;
       web = web-room;
-      near = near-lip-room (K .one-c) (K .chi1);
-      sum = signed-sum-fits f 316250000000 7200000000 second-reaches near-lip-reaches (lit≤ tt);
+      near = near-lip-room (K .one .c) (K .chi1);
+      sum = signed-plus-room f 316250000000 7200000000 second-reaches near-lip-reaches (lit≤ tt);
     }

@@ -1,5 +1,5 @@
 -- Every round has room and its factors are at most 1, and the parts that are kept after any number of rounds lie in boxes.
-use Prim.Native.Nat.{ℕ, zero, suc, _+_, _*_, _≤_, _<_}
+use Prim.Native.Nat.{ℕ, zero, suc, _*_, _<_}
 use mathlib.Core.Path.{_≡_}
 use mathlib.Core.Bool.{true}
 use native.Mathlib.Omega.{arith}
@@ -14,25 +14,20 @@ use Rattle.section.specs.declared.Stiffener.{Stiffener}
 use Rattle.section.specs.Working.{S, mm, whole, stiffener-of, g, J, T, kf, D, ud, χ-of, factors, round, rounds, effective}
 use Rattle.section.specs.Room.{Fine, FactorRoom, FactorsRoom, Factor, Steady, EffectiveRoom}
 use Rattle.section.proofs.Factor.{χ-box}
-use Rattle.section.proofs.CoefficientForms.{scale, one-factor, factors-most}
+use Rattle.section.proofs.Ends.{scale}
+use Rattle.section.proofs.CoefficientForms.{one-factor, factors-most}
 use Rattle.section.proofs.KeptBoxes.{KeptBox}
 use Rattle.section.proofs.BoxRooms.{wider, factor-box, box-factor, box-slim, over-room}
-use Rattle.section.proofs.SheetNumbers.{WebNumbers, FlangeNumbers}
+use Rattle.section.proofs.SheetNumbers.{FlangeNumbers, SectionNumbers}
 use Rattle.section.proofs.SizesOfWidths.{FlangeBox, he-box, web-kept-room}
-use Rattle.section.proofs.SizesOfStiffeners.{StiffenerBox, stiffener-box, stiffener-room, centre-room, g-thin, g-wide, be2-low, c-low, a-low, J-box, inertia-room, T-box, stress-room}
+use Rattle.section.proofs.SizesOfStiffeners.{StiffenerBox, stiffener-box, stiffener-room, centre-room, g-thin, g-wide, stiffener-range, J-box, inertia-room, T-box, stress-room}
 use Rattle.section.proofs.SizesOfFactors.{D-box, bend-room, ud-box, ud-room}
-
--- a section: depth d and widths β₁ and β₂ between mid-lines, in 0.01 mm, and lips of γ, in 0.005 mm; near: a of flange 2 is at most six times a of flange 1
-pub record SectionNumbers (t fyb d γ β₁ β₂ : ℕ) : Type 0 where
-  pub web : WebNumbers t fyb d
-  pub one : FlangeNumbers t fyb γ β₁
-  pub two : FlangeNumbers t fyb γ β₂
-  pub near : 5000 * β₂ ≤ 14400 * β₁ + 4000 * γ
 
 module _ {n : ℕ} (f : Fine n) where
   -- one flange, of stiffener s, beside the other, of stiffener s′
   module _ {t fyb γ β β′ : ℕ} (x : FlangeNumbers t fyb γ β) (x′ : FlangeNumbers t fyb γ β′) {s s′ : Stiffener} (b : StiffenerBox n γ β s) (b′ : StiffenerBox n γ β′ s′)
-      {hp kf bp bp′ : Pair} (hp-in : Inside n hp (0 to 500000000)) (kf-in : Inside n kf (0 to 6000000)) (bp-box : Inside n bp (10000 * β to 10000 * β)) (bp′-box : Inside n bp′ (10000 * β′ to 10000 * β′)) where
+      {hp kf bp bp′ : Pair} (hp-in : Inside n hp (0 to 500000000)) (kf-in : Inside n kf (0 to 6000000))
+      (bp-box : Inside n bp (10000 * β to 10000 * β)) (bp′-box : Inside n bp′ (10000 * β′ to 10000 * β′)) where
     t⁺ : 0 < t
     t⁺ = omega arith
 
@@ -116,16 +111,12 @@ module _ {n : ℕ} (f : Fine n) where
         let factors = factors-most steady times in
         let he = he-box f (x .web) hp-box in
         record {
-          first1 = be2-low n f (x .one) (first .0);
-          first2 = be2-low n f (x .two) (first .1);
+          first1 = stiffener-range n f (x .one) (first .0) .be2;
+          first2 = stiffener-range n f (x .two) (first .1) .be2;
           p = he;
           m = he;
-          one-be2 = be2-low n f (x .one) (last .0);
-          one-c = c-low n f (x .one) (last .0);
-          one-a = a-low n f (x .one) (last .0);
-          two-be2 = be2-low n f (x .two) (last .1);
-          two-c = c-low n f (x .two) (last .1);
-          two-a = a-low n f (x .two) (last .1);
+          one = stiffener-range n f (x .one) (last .0);
+          two = stiffener-range n f (x .two) (last .1);
           chi1 = factor-box f (factors .0);
           chi2 = factor-box f (factors .1);
         }

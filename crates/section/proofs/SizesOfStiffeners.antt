@@ -13,7 +13,8 @@ use Rattle.section.specs.declared.Stiffener.{Stiffener}
 use Rattle.section.specs.Working.{S, mm, whole, ρ-plane, ρ-lip, half-kept, stiffener-of, g, J, T}
 use Rattle.section.specs.Room.{Fine, StiffenerRoom, CentreRoom, InertiaRoom, StressRoom}
 use Rattle.section.proofs.Shares.{ρ-flange-box, ρ-lip-box}
-use Rattle.section.proofs.CoefficientForms.{scale}
+use Rattle.section.proofs.Ends.{scale}
+use Rattle.section.proofs.KeptBoxes.{StiffenerRange, lip-square-box}
 use Rattle.section.proofs.BoxRooms.{wider, box-slim, mm-box, whole-box, plus-room, times-room, over-room, root-room, times-by, by-times, over-by}
 use Rattle.section.proofs.SheetNumbers.{FlangeNumbers}
 use Rattle.section.proofs.SizesOfWidths.{FlangeBox, half-kept-box, half-kept-room}
@@ -77,6 +78,13 @@ module _ (n : ℕ) where
     }
 
   module _ {t fyb γ β : ℕ} (f : Fine n) (x : FlangeNumbers t fyb γ β) {s : Stiffener} (b : StiffenerBox n γ β s) where
+    pub stiffener-range : StiffenerRange n s
+    stiffener-range = record {
+      be2 = wider 3360000 100000000 (omega arith) (omega arith) (b .be2);
+      c = wider 600000 120000000 (omega arith) (omega arith) (b .c);
+      a = wider 3960000 220000000 (omega arith) (omega arith) (b .a);
+    }
+
     -- g: the subtraction is not cut at zero
 
     module _ {bp : Pair} (bp-box : Inside n bp (10000 * β to 10000 * β)) where
@@ -110,17 +118,8 @@ module _ (n : ℕ) where
 
     -- J
 
-    pub be2-low : Inside n (s .be2) (3360000 to 100000000)
-    be2-low = wider 3360000 100000000 (omega arith) (omega arith) (b .be2)
-
-    pub c-low : Inside n (s .c) (600000 to 120000000)
-    c-low = wider 600000 120000000 (omega arith) (omega arith) (b .c)
-
-    pub a-low : Inside n (s .a) (3960000 to 220000000)
-    a-low = wider 3960000 220000000 (omega arith) (omega arith) (b .a)
-
     once-box : Inside n (s .be2 ⊗ mm n t) (33600 * t to 1000000 * t)
-    once-box = times-box (33600 * t) (1000000 * t) (scale f) be2-low (mm-box f t) (omega arith) (omega arith)
+    once-box = times-box (33600 * t) (1000000 * t) (scale f) (stiffener-range .be2) (mm-box f t) (omega arith) (omega arith)
 
     again-box : Inside n (s .be2 ⊗ mm n t ⊗ mm n t) (336 * (t * t) to 10000 * (t * t))
     again-box = times-box (336 * (t * t)) (10000 * (t * t)) (scale f) once-box (mm-box f t) (omega arith) (omega arith)
@@ -128,20 +127,17 @@ module _ (n : ℕ) where
     plate-box : Inside n (s .be2 ⊗ mm n t ⊗ mm n t ⊘ whole n 12) (28 * (t * t) to 834 * (t * t))
     plate-box = over-box (28 * (t * t)) (834 * (t * t)) (scale f) (lit< tt) (lit< tt) again-box (whole-box f 12) (omega arith) (omega arith)
 
-    c²-box : Inside n (s .c ⊗ s .c) (0 to 14400000000)
-    c²-box = times-box 0 14400000000 (scale f) c-low c-low (lit≤ tt) (lit≤ tt)
-
     c³-box : Inside n (s .c ⊗ s .c ⊗ s .c) (0 to 1728000000000)
-    c³-box = times-box 0 1728000000000 (scale f) c²-box c-low (lit≤ tt) (lit≤ tt)
+    c³-box = times-box 0 1728000000000 (scale f) (lip-square-box f (stiffener-range .c)) (stiffener-range .c) (lit≤ tt) (lit≤ tt)
 
     twelfth-box : Inside n (s .c ⊗ s .c ⊗ s .c ⊘ whole n 12) (0 to 144000000000)
     twelfth-box = over-box 0 144000000000 (scale f) (lit< tt) (lit< tt) c³-box (whole-box f 12) (lit≤ tt) (lit≤ tt)
 
     c³be2-box : Inside n (s .c ⊗ s .c ⊗ s .c ⊗ s .be2) (0 to 172800000000000)
-    c³be2-box = times-box 0 172800000000000 (scale f) c³-box be2-low (lit≤ tt) (lit≤ tt)
+    c³be2-box = times-box 0 172800000000000 (scale f) c³-box (stiffener-range .be2) (lit≤ tt) (lit≤ tt)
 
     four-box : Inside n (whole n 4 ⊗ s .a) (15840000 to 880000000)
-    four-box = times-box 15840000 880000000 (scale f) (whole-box f 4) a-low (lit≤ tt) (lit≤ tt)
+    four-box = times-box 15840000 880000000 (scale f) (whole-box f 4) (stiffener-range .a) (lit≤ tt) (lit≤ tt)
 
     far-box : Inside n (s .c ⊗ s .c ⊗ s .c ⊗ s .be2 ⊘ (whole n 4 ⊗ s .a)) (0 to 10909091000000)
     far-box = over-box 0 10909091000000 (scale f) (lit< tt) (lit< tt) c³be2-box four-box (lit≤ tt) (lit≤ tt)
@@ -162,7 +158,7 @@ module _ (n : ℕ) where
         twice = times-by f _ t 100 (lit< tt) refl again-box (omega (arith, t²-most));
         twelfth = over-by f _ 12 1 (lit< tt) (lit< tt) refl plate-box (omega (arith, t²-most));
       };
-      solid = record { fine = f; square = times-room f _ _ c²-box (lit≤ tt); solid = times-room f _ _ c³-box (lit≤ tt) };
+      solid = record { fine = f; square = times-room f _ _ (lip-square-box f (stiffener-range .c)) (lit≤ tt); solid = times-room f _ _ c³-box (lit≤ tt) };
       twelfth = over-by f _ 12 1 (lit< tt) (lit< tt) refl twelfth-box (lit≤ tt);
       far = record {
         fine = f;

@@ -13,7 +13,7 @@ use Rattle.section.specs.Working.{S, constant, mm, whole, u², k, ρ-pla
 use Rattle.section.specs.Room.{Fine, SlenderRoom, HalfRoom, FlangeRoom, WebKeptRoom}
 use Rattle.section.proofs.Shares.{ρ-web-box}
 use Rattle.section.proofs.Coefficient.{k-box}
-use Rattle.section.proofs.CoefficientForms.{scale}
+use Rattle.section.proofs.Ends.{scale}
 use Rattle.section.proofs.BoxRooms.{wider, box-slim, constant-box, mm-box, whole-box, ratio-room, times-room, over-room, root-room, times-by, by-times, over-by}
 use Rattle.section.proofs.SheetNumbers.{WebNumbers, FlangeNumbers}
 
@@ -87,9 +87,6 @@ module _ {n : ℕ} (f : Fine n) where
     unfolding half-kept
     half-kept-room h = record { fine = f; half = by-times f r 1 2 (lit< tt) refl half-ρ-box (lit≤ tt); width = times-room f _ w half-kept-box (omega arith) }
 
-  four-box : Inside n (whole n 4) (4000000 to 4000000)
-  four-box = whole-box f 4
-
   -- a flange and its lip
   module _ {t fyb γ β : ℕ} (x : FlangeNumbers t fyb γ β) {cp bp : Pair} (cp-box : Inside n cp (5000 * γ to 5000 * γ)) (bp-box : Inside n bp (10000 * β to 10000 * β)) where
     flange-plane : Plane t fyb 4000000 (10000 * β) 60 13300000 3325000
@@ -108,7 +105,7 @@ module _ {n : ℕ} (f : Fine n) where
     flange-room = record {
       fine = f;
       four = ratio-room f 4 1 (lit< tt) (lit≤ tt);
-      plane = slender-room f flange-plane bp-box four-box;
+      plane = slender-room f flange-plane bp-box (whole-box f 4);
       quotient = over-room f cp bp (omega arith) bp-box q-box (lit≤ tt);
       ratio = record { fine = f; order = q-box .mid; most = q-box .high };
       lip = slender-room f lip-plane cp-box k-wide;
@@ -116,7 +113,7 @@ module _ {n : ℕ} (f : Fine n) where
 
     pub flange-box : FlangeBox n β (flange-of n (mm n t) (whole n fyb) cp bp)
     unfolding flange-of
-    flange-box = record { bp = bp-box; plane = u²-box f flange-plane bp-box four-box; lip = u²-box f lip-plane cp-box k-wide }
+    flange-box = record { bp = bp-box; plane = u²-box f flange-plane bp-box (whole-box f 4); lip = u²-box f lip-plane cp-box k-wide }
 
   -- the web
   module _ {t fyb d : ℕ} (x : WebNumbers t fyb d) {hp : Pair} (hp-box : Inside n hp (10000 * d to 10000 * d)) where
@@ -124,7 +121,7 @@ module _ {n : ℕ} (f : Fine n) where
     web-plane = omega arith
 
     web-box : Inside n (u² n (mm n t) (whole n fyb) (whole n 4) hp) (0 to 231000000)
-    web-box = u²-box f web-plane hp-box four-box
+    web-box = u²-box f web-plane hp-box (whole-box f 4)
 
     u-box : Inside n (root (S n) (u² n (mm n t) (whole n fyb) (whole n 4) hp)) (0 to 15200000)
     u-box = root-box 0 15200000 (scale f) web-box (lit≤ tt) (lit≤ tt)
@@ -136,7 +133,7 @@ module _ {n : ℕ} (f : Fine n) where
     web-kept-room = record {
       fine = f;
       four = ratio-room f 4 1 (lit< tt) (lit≤ tt);
-      slender = slender-room f web-plane hp-box four-box;
+      slender = slender-room f web-plane hp-box (whole-box f 4);
       radicand = root-room f web-box (lit≤ tt);
       slim = box-slim f u-box (lit≤ tt);
       half = half-kept-room 300 d (ρ-web-box (f .some) u-box) hp-box (omega arith);

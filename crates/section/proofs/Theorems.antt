@@ -6,13 +6,20 @@ use Rattle.section.specs.Sheets.{Sound}
 use Rattle.section.specs.Working.{worked}
 use Rattle.section.specs.Figures.{figures, Question11, Held}
 use Rattle.section.specs.Nested.{WorkedInside}
+use Rattle.section.specs.Uncut.{Uncut}
+use Rattle.section.proofs.Ends.{own-fine}
 use Rattle.section.proofs.Whole.{SheetDivisors, sheet-divisors, worked-inside}
 use Rattle.section.proofs.Promise.{held}
-use Rattle.section.proofs.SizesOfSheets.{own-divisors}
+use Rattle.section.proofs.SizesOfSheets.{fine-divisors}
+use Rattle.section.proofs.NothingCut.{uncut}
 
 -- no divisor is zero, at any scale
 pub divisors-above-zero : {n : ℕ} (q : Sheet) → 0 < n → Sound q → SheetDivisors n q
-divisors-above-zero q n⁺ s = sheet-divisors q n⁺ (own-divisors s)
+divisors-above-zero q n⁺ s = sheet-divisors q n⁺ (fine-divisors s own-fine)
+
+-- no subtraction of natural numbers is cut at zero, at any scale and in any round
+pub nothing-cut-at-zero : {n : ℕ} (q : Sheet) → 0 < n → Sound q → Uncut n q
+nothing-cut-at-zero q n⁺ s = uncut q n⁺ s
 
 -- the working at m times a scale lies inside the working at that scale: area, both χ, z, gross z and shift
 pub finer-working-inside : {n m : ℕ} (q : Sheet) → 0 < n → 0 < m → Sound q → WorkedInside m (worked (m * n) q) (worked n q)

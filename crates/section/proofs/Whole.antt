@@ -1,19 +1,21 @@
 -- The whole working at m × n lies inside the working at n, where nothing that it divides by at n may be zero.
 use Prim.Native.Nat.{ℕ, zero, suc, _*_, _<_}
+use mathlib.Core.Path.{refl}
 use native.Mathlib.Nat.{mul-one}
 use lib.Dec.{lit<}
 use Rattle.pair.specs.Enclosure.{Inside, Positive}
 use Rattle.pair.specs.declared.Pair.{Pair}
 use Rattle.pair.proofs.Laws.{positive-inside, times-inside}
 use Rattle.pair.proofs.SignedLaws.{signed-minus-inside}
-use Rattle.pair.proofs.Nesting as nesting
 use Rattle.section.specs.declared.Flange.{Flange}
 use Rattle.section.specs.declared.Stiffener.{Stiffener}
 use Rattle.section.specs.declared.Round.{Round}
 use Rattle.section.specs.declared.Sheet.{Sheet}
 use Rattle.section.specs.Working.{whole, mm, mid-line, lip-line, flange-of, J, round, rounds, L, full, effective, worked}
 use Rattle.section.specs.Nested.{FlangeInside, StiffenerInside, RoundInside, KeptInside, WorkedInside}
-use Rattle.section.proofs.Ends.{finer, constant-exact}
+use Rattle.section.specs.Room.{hp-of, cp-of, bp₁-of, bp₂-of, effective-of, full-of}
+use Rattle.section.specs.Uncut.{round-of}
+use Rattle.section.proofs.Ends.{finer, constant-inside}
 use Rattle.section.proofs.Formulas.{mid-line-inside, lip-line-inside, web-inside, flange-inside, stiffener-inside, g-inside, J-inside, kf-inside, χ-of-inside, L-inside, z-inside, full-inside}
 
 -- what is divided by: a and J of a stiffener, both stiffeners' of a round, and all of a working
@@ -35,7 +37,7 @@ pub record Divisors (n : ℕ) (t fyb hp cp bp₁ bp₂ : Pair) (times : ℕ) : T
 
 module _ {n m : ℕ} (n⁺ : 0 < n) (m⁺ : 0 < m) where
   one-inside : Inside m (whole (m * n) 1) (whole n 1)
-  one-inside = search (nesting.inside, finer, constant-exact, lit<) depth 20
+  one-inside = constant-inside n⁺ m⁺ 1 1 (lit< tt) refl
 
   module _ {t t′ fyb fyb′ hp hp′ cp cp′ : Pair} {f₁ f₁′ f₂ f₂′ : Flange} (t⁺ : Positive t) (t-in : Inside m t′ t) (fyb-in : Inside m fyb′ fyb) (hp-in : Inside m hp′ hp) (cp-in : Inside m cp′ cp)
       (f₁-in : FlangeInside m f₁′ f₁) (f₂-in : FlangeInside m f₂′ f₂) where
@@ -60,7 +62,8 @@ module _ {n m : ℕ} (n⁺ : 0 < n) (m⁺ : 0 < m) where
     rounds-inside zero d = round-inside (d zero) one-inside one-inside
     rounds-inside (suc i) d = let r = rounds-inside i d in round-inside (d (suc i)) (r .chi1) (r .chi2)
 
-    pub effective-inside : (times : ℕ) → ((j : ℕ) → RoundDivisors n t (rounds n t fyb hp cp f₁ f₂ j)) → KeptInside m (effective (m * n) t′ fyb′ hp′ cp′ f₁′ f₂′ times) (effective n t fyb hp cp f₁ f₂ times)
+    pub effective-inside : (times : ℕ) → ((j : ℕ) → RoundDivisors n t (rounds n t fyb hp cp f₁ f₂ j))
+        → KeptInside m (effective (m * n) t′ fyb′ hp′ cp′ f₁′ f₂′ times) (effective n t fyb hp cp f₁ f₂ times)
     unfolding effective
     effective-inside times d =
         let first = rounds-inside 0 d in
@@ -91,6 +94,11 @@ module _ {n m : ℕ} (n⁺ : 0 < n) (m⁺ : 0 < m) where
     f₂-in : FlangeInside m (flange-of (m * n) t′ fyb′ cp′ bp₂′) (flange-of n t fyb cp bp₂)
     f₂-in = flange-inside n⁺ m⁺ (d .core) (d .flange2) t-in fyb-in cp-in bp₂-in
 
+    pub each-inside : (i : ℕ) → RoundInside m
+        (rounds (m * n) t′ fyb′ hp′ cp′ (flange-of (m * n) t′ fyb′ cp′ bp₁′) (flange-of (m * n) t′ fyb′ cp′ bp₂′) i)
+        (rounds n t fyb hp cp (flange-of n t fyb cp bp₁) (flange-of n t fyb cp bp₂) i)
+    each-inside i = rounds-inside (d .core) t-in fyb-in hp-in cp-in f₁-in f₂-in i (d .each)
+
     kept-inside : KeptInside m
         (effective (m * n) t′ fyb′ hp′ cp′ (flange-of (m * n) t′ fyb′ cp′ bp₁′) (flange-of (m * n) t′ fyb′ cp′ bp₂′) times)
         (effective n t fyb hp cp (flange-of n t fyb cp bp₁) (flange-of n t fyb cp bp₂) times)
@@ -106,23 +114,21 @@ module _ {n m : ℕ} (n⁺ : 0 < n) (m⁺ : 0 < m) where
           core = positive-inside m⁺ t-in (d .core);
           flange1 = positive-inside m⁺ bp₁-in (d .flange1);
           flange2 = positive-inside m⁺ bp₂-in (d .flange2);
-          each = λ i. round-finer (d .core) t-in fyb-in hp-in cp-in f₁-in f₂-in (rounds-inside (d .core) t-in fyb-in hp-in cp-in f₁-in f₂-in i (d .each)) (d .each i);
+          each = λ i. round-finer (d .core) t-in fyb-in hp-in cp-in f₁-in f₂-in (each-inside i) (d .each i);
           kept = positive-inside m⁺ (L-inside n⁺ m⁺ kept-inside) (d .kept);
           gross = positive-inside m⁺ (L-inside n⁺ m⁺ gross-inside) (d .gross);
         }
 
 -- what the working of a sheet divides by
 abbrev pub SheetDivisors : ℕ → Sheet → Type 0
-SheetDivisors n q =
-    Divisors n (mm n (q .t .0)) (whole n (q .fyb)) (mid-line n (q .h) (q .tnom .0)) (lip-line n (q .c) (q .tnom .0))
-    (mid-line n (q .b1) (q .tnom .0)) (mid-line n (q .b2) (q .tnom .0)) (q .rounds)
+SheetDivisors n q = Divisors n (mm n (q .t .0)) (whole n (q .fyb)) (hp-of n q) (cp-of n q) (bp₁-of n q) (bp₂-of n q) (q .rounds)
 
 module _ {n m : ℕ} (n⁺ : 0 < n) (m⁺ : 0 < m) (q : Sheet) (d : SheetDivisors n q) where
   t-in : Inside m (mm (m * n) (q .t .0)) (mm n (q .t .0))
-  t-in = search (nesting.inside, finer, constant-exact, lit<) depth 20
+  t-in = constant-inside n⁺ m⁺ (q .t .0) 100 (lit< tt) refl
 
   fyb-in : Inside m (whole (m * n) (q .fyb)) (whole n (q .fyb))
-  fyb-in = search (nesting.inside, finer, constant-exact, lit<) depth 20
+  fyb-in = constant-inside n⁺ m⁺ (q .fyb) 1 (lit< tt) refl
 
   mid : (w : ℕ) → Inside m (mid-line (m * n) w (q .tnom .0)) (mid-line n w (q .tnom .0))
   mid w = mid-line-inside n⁺ m⁺ w (q .tnom .0)
@@ -133,13 +139,23 @@ module _ {n m : ℕ} (n⁺ : 0 < n) (m⁺ : 0 < m) (q : Sheet) (d : SheetDivisor
   pub sheet-divisors-finer : SheetDivisors (m * n) q
   sheet-divisors-finer = divisors-finer n⁺ m⁺ t-in fyb-in (mid (q .h)) cp-in (mid (q .b1)) (mid (q .b2)) d
 
+  -- every round, what is kept, and the full section
+  pub sheet-rounds-inside : (i : ℕ) → RoundInside m (round-of (m * n) q i) (round-of n q i)
+  sheet-rounds-inside i = each-inside n⁺ m⁺ t-in fyb-in (mid (q .h)) cp-in (mid (q .b1)) (mid (q .b2)) d i
+
+  pub sheet-kept-inside : KeptInside m (effective-of (m * n) q) (effective-of n q)
+  sheet-kept-inside = kept-inside n⁺ m⁺ t-in fyb-in (mid (q .h)) cp-in (mid (q .b1)) (mid (q .b2)) d
+
+  pub sheet-full-inside : KeptInside m (full-of (m * n) q) (full-of n q)
+  sheet-full-inside = gross-inside n⁺ m⁺ t-in fyb-in (mid (q .h)) cp-in (mid (q .b1)) (mid (q .b2)) d
+
   -- the working of a sheet at m × n lies inside its working at n
   pub worked-inside : WorkedInside m (worked (m * n) q) (worked n q)
   unfolding worked
   worked-inside =
-      let e = kept-inside n⁺ m⁺ t-in fyb-in (mid (q .h)) cp-in (mid (q .b1)) (mid (q .b2)) d in
+      let e = sheet-kept-inside in
       let y = z-inside n⁺ m⁺ (d .kept) (mid (q .h)) e in
-      let w = z-inside n⁺ m⁺ (d .gross) (mid (q .h)) (gross-inside n⁺ m⁺ t-in fyb-in (mid (q .h)) cp-in (mid (q .b1)) (mid (q .b2)) d) in
+      let w = z-inside n⁺ m⁺ (d .gross) (mid (q .h)) sheet-full-inside in
       record {
         area = times-inside (finer m⁺ n⁺) t-in (L-inside n⁺ m⁺ e);
         χ₁ = e .chi1;

@@ -4,3 +4,4 @@ pub mod Figures
 pub mod Forms
 pub mod Nested
 pub mod Room
+pub mod Uncut

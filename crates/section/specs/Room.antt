@@ -1,17 +1,16 @@
 -- What each function of the working asks of its operands: that each of its operations has room (specs/Fits of crate pair), a field for each.
-use Prim.Native.Nat.{ℕ, _+_, _*_, _≤_, _<_}
+use Prim.Native.Nat.{ℕ, _*_, _≤_, _<_}
 use mathlib.Core.Path.{_≡_}
 use mathlib.Core.Bool.{true}
-use Rattle.pair.specs.Pairs.{_to_, ratio, plus, minus, times, over, root, cubeRoot}
-use Rattle.pair.specs.SignedPairs.{SignedPair, signed, difference, signedPlus, signedTimes}
+use Rattle.pair.specs.Pairs.{ratio, times, over, root, cubeRoot}
+use Rattle.pair.specs.SignedPairs.{SignedPair, signed, difference}
 use Rattle.pair.specs.Fits.{ratioFits, plusFits, minusFits, timesFits, overFits, timesRatioFits, overRatioFits, rootFits, cubeRootFits, signedPlusFits, signedTimesFits, signedOverFits}
 use Rattle.pair.specs.declared.Pair.{Pair}
 use Rattle.section.specs.declared.Flange.{Flange}
 use Rattle.section.specs.declared.Stiffener.{Stiffener}
-use Rattle.section.specs.declared.Round.{Round}
 use Rattle.section.specs.declared.Kept.{Kept}
 use Rattle.section.specs.declared.Sheet.{Sheet}
-use Rattle.section.specs.Working.{_⊕_, _⊖_, _⊞_, S, constant, whole, units, mm, mid-line, lip-line, u², ρ-plane, ρ-lip, k-past, k, half-kept, flange-of, stiffener-of, g, J, T, kf, D, ud, χ, χ-of, round, rounds, L, lip-moment, flange-moment, far-web-moment, near-web-moment, near-lip-moment, moment, z, full, effective}
+use Rattle.section.specs.Working.{_⊕_, _⊖_, _⊞_, S, constant, whole, mm, mid-line, lip-line, u², ρ-plane, ρ-lip, k, flange-of, stiffener-of, g, J, T, kf, D, ud, round, rounds, L, lip-moment, flange-moment, far-web-moment, near-web-moment, near-lip-moment, moment, z, full, effective}
 
 -- our scale, or up to ten times it
 pub record Fine (n : ℕ) : Type 0 where

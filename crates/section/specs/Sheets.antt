@@ -1,5 +1,5 @@
 -- A sheet's numbers, lengths in 0.01 mm, and the questions on them. (Document 01, "Sheet and certificate" and "The questions, in this order".)
-use Prim.Native.Nat.{ℕ, _+_, _-_, _*_, _≤_}
+use Prim.Native.Nat.{ℕ, _-_, _*_, _≤_}
 use mathlib.Core.Path.{_≡_}
 use mathlib.Core.Logic.{_⊎_}
 use Rattle.section.specs.declared.Sheet.{Sheet}

@@ -1,6 +1,6 @@
 -- The working of a section, in document 01's order and with its symbols, one definition for each formula.
 -- n is the fineness: the scale S is n × 1,000,000. At n = 1 this is the paper's own working, and at m × n the same paper with S replaced by m × S.
-use Prim.Native.Nat.{ℕ, zero, suc, _+_, _-_, _*_, _/_, min, max}
+use Prim.Native.Nat.{ℕ, zero, suc, _-_, _*_, _/_, min, max}
 use mathlib.Core.Bool.{cond}
 use lib.Dec.{leb, ltb}
 use Rattle.pair.specs.Rounding.{ceilDiv}
