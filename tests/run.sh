@@ -10,4 +10,8 @@ else
     echo "python3 is not here: expected output is taken as kept, and not made anew"
 fi
 
+# The reference holds to the paper's cases, and the sections and their expected results are its own.
+cargo test --release --offline -q --manifest-path tests/reference/Cargo.toml
+tests/section_cases.sh
+
 rt ci

@@ -148,12 +148,11 @@ fn first_moment(n: u64, hp: Pair, x: Kept) -> Signed
     with_pair(web, lip)
 }
 
-// z, the distance of the neutral axis from flange 1.
-pub fn axis(n: u64, hp: Pair, x: Kept) -> Signed
-    requires { ⌜ AxisRoom n hp x ⌝ }
+// z, the distance of the neutral axis from flange 1; l is L of the same kept parts.
+pub fn axis(n: u64, hp: Pair, x: Kept, l: Pair) -> Signed
+    requires { ⌜ AxisRoom n hp x × (l ≡ L n x) ⌝ }
     ensures { λ r. ⌜ meaning r ≡ z n hp x ⌝ }
 {
     let sum = first_moment(n, hp, x);
-    let over = length(n, x);
-    sum.over(over, n * 1_000_000)
+    sum.over(l, n * 1_000_000)
 }

@@ -161,8 +161,9 @@ fn worked_of(n: u64, q: Sheet, hp: Pair, e: Kept, g: Kept) -> Work
     let chi2 = e.chi2;
     let length = moments::length(n, e);
     let area = widths::constant_times(n, t.0, 100, length);
-    let z = moments::axis(n, hp, e);
-    let gross = moments::axis(n, hp, g);
+    let z = moments::axis(n, hp, e, length);
+    let full_length = moments::length(n, g);
+    let gross = moments::axis(n, hp, g, full_length);
     let shift = z.minus(gross);
     Work {
         area,

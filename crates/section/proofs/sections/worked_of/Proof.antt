@@ -16,26 +16,35 @@ constant-times-requires : tie.Need-constant-times-requires
 constant-times-requires c κs = (c .before .before .before .before .pre .0 .fine, rw (c .length .ensures, c .before .before .before .before .pre .2) (c .before .before .before .before .pre .0 .area))
 
 axis-requires : tie.Need-axis-requires
-axis-requires c κs = rw (c .before .before .before .before .before .pre .1, c .before .before .before .before .before .pre .2) (c .before .before .before .before .before .pre .0 .axis)
+axis-requires c κs =
+    let start = c .before .before .before .before .before in
+    (rw (start .pre .1, start .pre .2) (start .pre .0 .axis), c .before .length .ensures)
+
+length-requires-2 : tie.Need-length-requires-2
+length-requires-2 c κs = rw (c .before .before .before .before .before .before .pre .3) (c .before .before .before .before .before .before .pre .0 .gross .length)
 
 axis-requires-2 : tie.Need-axis-requires-2
-axis-requires-2 c κs = rw (c .before .before .before .before .before .before .pre .1, c .before .before .before .before .before .before .pre .3) (c .before .before .before .before .before .before .pre .0 .gross)
+axis-requires-2 c κs =
+    let start = c .before .before .before .before .before .before .before in
+    (rw (start .pre .1, start .pre .3) (start .pre .0 .gross), c .length2 .ensures)
 
 minus-requires : tie.Need-minus-requires
 minus-requires c κs =
-    rw (c .axis2 .ensures, c .before .axis .ensures, c .before .before .before .before .before .before .before .pre .1, c .before .before .before .before .before .before .before .pre .2, c .before .before .before .before .before .before .before .pre .3) (c .before .before .before .before .before .before .before .pre .0 .shift)
+    let start = c .before .before .before .before .before .before .before .before in
+    rw (c .axis2 .ensures, c .before .before .axis .ensures, start .pre .1, start .pre .2, start .pre .3) (start .pre .0 .shift)
 
 returns : tie.Need-returns
 unfolding worked workedOf
 returns c =
-    let start = c .before .before .before .before .before .before .before .before in
+    let start = c .before .before .before .before .before .before .before .before .before in
     let n = start .args .n in
     let hp = start .pre .1 in
     let e = start .pre .2 in
-    let axis = c .before .before .axis .ensures ∙ (λ i. z n (hp i) (e i)) in
+    let axis = c .before .before .before .axis .ensures ∙ (λ i. z n (hp i) (e i)) in
     let gross = c .before .axis2 .ensures ∙ (λ i. z n (hp i) (start .pre .3 i)) in
+    let length = c .before .before .before .before .before .length .ensures ∙ ap (λ (x : Kept). L n x) e in
     λ i. record {
-      area = (c .before .before .before .constant-times .ensures ∙ ap (λ (x : Pair). times (S n) (mm n (start .args .q .t .0)) x) (c .before .before .before .before .length .ensures ∙ ap (λ (x : Kept). L n x) e)) i;
+      area = (c .before .before .before .before .constant-times .ensures ∙ ap (λ (x : Pair). times (S n) (mm n (start .args .q .t .0)) x) length) i;
       χ₁ = (e i) .chi1;
       χ₂ = (e i) .chi2;
       z = axis i;
@@ -50,6 +59,7 @@ worked-of-spec =
     length-requires
     constant-times-requires
     axis-requires
+    length-requires-2
     axis-requires-2
     minus-requires
     returns)

@@ -1,0 +1,108 @@
+//! Writes test sections and their expected results, sheets at the edges of the
+//! questions, or every intermediate pair of sheet B.
+//!
+//! sections INPUTS RESULTS
+//! sections --edges INPUTS RESULTS
+//! sections --intermediate FILE
+
+use reference::edges::edges;
+use reference::generate::{sections, worked, KINDS, SHEET_B};
+use reference::sheet::{ask_before_working, Figures, Sheet};
+use reference::working::Working;
+use std::fmt::Display;
+use std::process::ExitCode;
+use std::{env, fs, io};
+
+fn main() -> ExitCode {
+    let arguments: Vec<String> = env::args().skip(1).collect();
+    let done = match arguments.iter().map(String::as_str).collect::<Vec<_>>()[..] {
+        ["--intermediate", file] => fs::write(file, intermediate_lines(&SHEET_B)),
+        ["--edges", inputs, results] => write_edges(inputs, results),
+        [inputs, results] => write_sections(inputs, results),
+        _ => {
+            eprintln!("sections [--edges] INPUTS RESULTS | sections --intermediate FILE");
+            return ExitCode::FAILURE;
+        }
+    };
+    match done {
+        Ok(()) => ExitCode::SUCCESS,
+        Err(error) => {
+            eprintln!("{error}");
+            ExitCode::FAILURE
+        }
+    }
+}
+
+fn write_sections(inputs: &str, results: &str) -> io::Result<()> {
+    let all: Vec<(Sheet, Working)> = sections().into_iter().map(|s| (s, worked(&s))).collect();
+    let input_lines: String = all
+        .iter()
+        .map(|(sheet, _)| line(&sheet.numbers()))
+        .collect();
+    let result_lines: String = all
+        .iter()
+        .map(|(sheet, working)| result_line(sheet, working))
+        .collect();
+    fs::write(inputs, input_lines)?;
+    fs::write(results, result_lines)?;
+    print_counts(&all);
+    Ok(())
+}
+
+/// A sheet that meets questions 2 to 10 has its line of results, any other
+/// `refused`.
+fn write_edges(inputs: &str, results: &str) -> io::Result<()> {
+    let all = edges();
+    let result_lines: String = all
+        .iter()
+        .map(|numbers| match ask_before_working(*numbers) {
+            Ok(sheet) => result_line(&sheet, &worked(&sheet)),
+            Err(_) => "refused\n".to_string(),
+        })
+        .collect();
+    fs::write(inputs, all.iter().map(|n| line(n)).collect::<String>())?;
+    fs::write(results, result_lines)
+}
+
+/// Decimal numbers separated by one blank.
+fn line<T: Display>(numbers: &[T]) -> String {
+    let words: Vec<String> = numbers.iter().map(T::to_string).collect();
+    words.join(" ") + "\n"
+}
+
+/// Ends of area, chi1, chi2 and shift, then the six printed figures.
+fn result_line(sheet: &Sheet, working: &Working) -> String {
+    let [chi1, chi2] = working.chi();
+    let mut numbers = Vec::new();
+    for pair in [working.area, chi1, chi2, working.shift] {
+        numbers.extend([pair.lo, pair.hi]);
+    }
+    numbers.extend(Figures::of(sheet, working).numbers());
+    line(&numbers)
+}
+
+fn intermediate_lines(sheet: &Sheet) -> String {
+    let named = worked(sheet).named();
+    named
+        .iter()
+        .map(|(name, pair)| format!("{name} {} {}\n", pair.lo, pair.hi))
+        .collect()
+}
+
+fn print_counts(all: &[(Sheet, Working)]) {
+    eprintln!("{:4} sections", all.len());
+    for (name, is_kind) in KINDS {
+        let count = all
+            .iter()
+            .filter(|(sheet, working)| is_kind(sheet, working))
+            .count();
+        eprintln!("{count:4} {name}");
+    }
+    for rounds in 0..=8 {
+        let count = all
+            .iter()
+            .filter(|(sheet, _)| sheet.rounds == rounds)
+            .count();
+        eprintln!("{count:4} rounds {rounds}");
+    }
+}

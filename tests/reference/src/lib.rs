@@ -1,0 +1,12 @@
+//! Reference working of a lipped C or Z section, from document 01 alone.
+//!
+//! Slow and plain on purpose: wide integers, every intermediate pair kept.
+
+pub mod edges;
+pub mod finer;
+pub mod generate;
+pub mod pair;
+pub mod rules;
+pub mod sheet;
+pub mod text;
+pub mod working;

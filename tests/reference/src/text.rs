@@ -1,0 +1,230 @@
+//! Sheets and certificates as text: questions 1, 12 and 13 (document 01,
+//! "Sheet and certificate", "The questions, in this order").
+
+use crate::sheet::{ask_numbers, Accepted, Refusal};
+
+/// Keys of a sheet, in order.
+pub const SHEET_KEYS: [&str; 12] = [
+    "form", "h", "b1", "b2", "c", "r", "tnom", "t", "fyb", "gm0", "rounds", "allow",
+];
+
+/// Keys of a certificate's further lines, in order.
+pub const FIGURE_KEYS: [&str; 6] = ["area", "axial", "chi1", "chi2", "shiftlo", "shifthi"];
+
+/// What a call returns: 0 or the refusal's number, a line and a length.
+#[derive(Clone, Copy, Debug, PartialEq, Eq)]
+pub struct Answer {
+    pub number: u64,
+    pub line: u64,
+    pub length: u64,
+}
+
+impl Answer {
+    fn done(length: usize) -> Answer {
+        Answer {
+            number: 0,
+            line: 0,
+            length: length as u64,
+        }
+    }
+
+    fn refused(refusal: Refusal) -> Answer {
+        Answer {
+            number: refusal.number,
+            line: refusal.line,
+            length: 0,
+        }
+    }
+}
+
+/// The bytes not read yet; each line must be key=value and byte 10.
+struct Reader<'a> {
+    rest: &'a [u8],
+}
+
+impl<'a> Reader<'a> {
+    /// The value of the next line, if its key is as asked.
+    fn value(&mut self, key: &str) -> Option<&'a [u8]> {
+        let end = self.rest.iter().position(|&byte| byte == 10)?;
+        let line = &self.rest[..end];
+        let value = line.strip_prefix(key.as_bytes())?.strip_prefix(b"=")?;
+        self.rest = &self.rest[end + 1..];
+        Some(value)
+    }
+}
+
+/// The one letter C or Z.
+fn form_of(value: &[u8]) -> Option<u64> {
+    match value {
+        b"C" => Some(0),
+        b"Z" => Some(1),
+        _ => None,
+    }
+}
+
+/// 1 to 10 digits, no leading zero but in 0 itself.
+fn number_of(value: &[u8]) -> Option<u64> {
+    if value.is_empty() || value.len() > 10 || (value[0] == b'0' && value.len() > 1) {
+        return None;
+    }
+    let mut number = 0;
+    for byte in value {
+        if !byte.is_ascii_digit() {
+            return None;
+        }
+        number = number * 10 + u64::from(byte - b'0');
+    }
+    Some(number)
+}
+
+/// A number that may have a minus, never before 0.
+fn shift_of(value: &[u8]) -> Option<i128> {
+    match value.strip_prefix(b"-") {
+        None => number_of(value).map(i128::from),
+        Some(digits) => number_of(digits)
+            .filter(|&n| n != 0)
+            .map(|n| -i128::from(n)),
+    }
+}
+
+fn may_have_minus(key: &str) -> bool {
+    key == "shiftlo" || key == "shifthi"
+}
+
+fn bad_line(line: usize) -> Refusal {
+    Refusal {
+        number: 1,
+        line: line as u64,
+    }
+}
+
+/// Lines 1 to 12.
+fn sheet_lines(reader: &mut Reader) -> Result<[u64; 12], Refusal> {
+    let mut numbers = [0; 12];
+    for (i, key) in SHEET_KEYS.iter().enumerate() {
+        let read = if i == 0 { form_of } else { number_of };
+        numbers[i] = reader.value(key).and_then(read).ok_or(bad_line(i + 1))?;
+    }
+    Ok(numbers)
+}
+
+/// Lines 13 to 18.
+fn figure_lines(reader: &mut Reader) -> Result<[i128; 6], Refusal> {
+    let mut numbers = [0; 6];
+    for (i, key) in FIGURE_KEYS.iter().enumerate() {
+        let value = reader.value(key).ok_or(bad_line(i + 13))?;
+        let number = if may_have_minus(key) {
+            shift_of(value)
+        } else {
+            number_of(value).map(i128::from)
+        };
+        numbers[i] = number.ok_or(bad_line(i + 13))?;
+    }
+    Ok(numbers)
+}
+
+fn nothing_behind(reader: &Reader, line: usize) -> Result<(), Refusal> {
+    if reader.rest.is_empty() {
+        Ok(())
+    } else {
+        Err(bad_line(line))
+    }
+}
+
+/// Question 1 on a sheet.
+pub fn read_sheet(text: &[u8]) -> Result<[u64; 12], Refusal> {
+    let mut reader = Reader { rest: text };
+    let numbers = sheet_lines(&mut reader)?;
+    nothing_behind(&reader, 13)?;
+    Ok(numbers)
+}
+
+/// Question 1 on a certificate.
+pub fn read_certificate(text: &[u8]) -> Result<([u64; 12], [i128; 6]), Refusal> {
+    let mut reader = Reader { rest: text };
+    let numbers = sheet_lines(&mut reader)?;
+    let figures = figure_lines(&mut reader)?;
+    nothing_behind(&reader, 19)?;
+    Ok((numbers, figures))
+}
+
+/// The twelve lines of a sheet.
+pub fn sheet_text(numbers: [u64; 12]) -> String {
+    let mut text = format!("form={}\n", if numbers[0] == 1 { "Z" } else { "C" });
+    for (key, number) in SHEET_KEYS.iter().zip(numbers).skip(1) {
+        text += &format!("{key}={number}\n");
+    }
+    text
+}
+
+/// The eighteen lines of a certificate.
+pub fn certificate_text(accepted: &Accepted) -> String {
+    let mut text = sheet_text(accepted.sheet.numbers());
+    for (key, number) in FIGURE_KEYS.iter().zip(accepted.figures.numbers()) {
+        text += &format!("{key}={number}\n");
+    }
+    text
+}
+
+/// Question 12, then the writing.
+fn write(accepted: &Accepted, buffer: &mut [u8]) -> Answer {
+    let text = certificate_text(accepted);
+    if text.len() > buffer.len() {
+        return Answer {
+            number: 12,
+            line: 0,
+            length: text.len() as u64,
+        };
+    }
+    buffer[..text.len()].copy_from_slice(text.as_bytes());
+    Answer::done(text.len())
+}
+
+/// A sheet as text into a certificate.
+pub fn write_from_text(sheet: &[u8], buffer: &mut [u8]) -> Answer {
+    match read_sheet(sheet) {
+        Ok(numbers) => write_from_numbers(numbers, buffer),
+        Err(refusal) => Answer::refused(refusal),
+    }
+}
+
+/// Twelve plain numbers into a certificate; begins at the second question.
+pub fn write_from_numbers(numbers: [u64; 12], buffer: &mut [u8]) -> Answer {
+    match ask_numbers(numbers) {
+        Ok(accepted) => write(&accepted, buffer),
+        Err(refusal) => Answer::refused(refusal),
+    }
+}
+
+/// Question 13: do lines 13 to 18 agree with the working?
+fn ask_agreement(accepted: &Accepted, figures: [i128; 6]) -> Result<(), Refusal> {
+    match (0..6).find(|&i| figures[i] != accepted.figures.numbers()[i]) {
+        None => Ok(()),
+        Some(i) => Err(Refusal {
+            number: 13,
+            line: i as u64 + 13,
+        }),
+    }
+}
+
+fn ask_certificate(certificate: &[u8]) -> Result<(), Refusal> {
+    let (numbers, figures) = read_certificate(certificate)?;
+    let accepted = ask_numbers(numbers)?;
+    ask_agreement(&accepted, figures)
+}
+
+/// Checks a certificate.
+pub fn check(certificate: &[u8]) -> Answer {
+    match ask_certificate(certificate) {
+        Ok(()) => Answer::done(certificate.len()),
+        Err(refusal) => Answer::refused(refusal),
+    }
+}
+
+/// What the program prints for a sheet on standard input.
+pub fn printed(sheet: &[u8]) -> String {
+    match read_sheet(sheet).and_then(ask_numbers) {
+        Ok(accepted) => certificate_text(&accepted),
+        Err(refusal) => format!("refused={}\nline={}\n", refusal.number, refusal.line),
+    }
+}

@@ -1,0 +1,141 @@
+//! Sheet B against the values that source 002 prints.
+
+use reference::generate::{worked, SHEET_B};
+use reference::pair::{Pair, Scale};
+use reference::sheet::Sheet;
+use reference::working::{Parts, Working};
+
+/// Both ends round to the printed decimal, half up.
+fn rounds_to(pair: Pair, printed: &str) -> bool {
+    let places = printed
+        .split_once('.')
+        .map_or(0, |(_, after)| after.len() as u32);
+    let digits: i128 = printed.replace('.', "").parse().expect("a decimal");
+    let unit = pair.scale.units() / 10i128.pow(places);
+    [pair.lo, pair.hi]
+        .iter()
+        .all(|end| (end + unit / 2).div_euclid(unit) == digits)
+}
+
+fn assert_rounds(pair: Pair, printed: &str) {
+    assert!(
+        rounds_to(pair, printed),
+        "{:?} is not {printed}",
+        pair.ends()
+    );
+}
+
+fn sheet_b() -> Working {
+    worked(&SHEET_B)
+}
+
+#[test]
+fn mid_line_lengths() {
+    let lengths = sheet_b().lengths;
+    assert_rounds(lengths.hp, "198");
+    assert_rounds(lengths.bp[0], "72");
+    assert_rounds(lengths.bp[1], "64");
+    assert_rounds(lengths.cp, "19.8");
+}
+
+#[test]
+fn slenderness() {
+    let b = sheet_b();
+    assert_rounds(b.flanges[0].u, "0.789");
+    assert_rounds(b.flanges[1].u, "0.702");
+    assert_rounds(b.lips[0].u, "0.614");
+    assert_rounds(b.lips[1].u, "0.614");
+    assert_rounds(b.web.u, "2.171");
+}
+
+#[test]
+fn lip_ratios() {
+    let b = sheet_b();
+    assert_rounds(b.lip_ratios[0].q, "0.275");
+    assert_rounds(b.lip_ratios[1].q, "0.309");
+    assert_rounds(b.lip_ratios[0].k, "0.5");
+    assert_rounds(b.lip_ratios[1].k, "0.5");
+}
+
+#[test]
+fn parts_that_count() {
+    let b = sheet_b();
+    assert_rounds(b.flanges[0].rho, "0.914");
+    assert_rounds(b.flanges[1].rho, "0.978");
+    assert_rounds(b.lips[0].rho, "1");
+    assert_rounds(b.lips[1].rho, "1");
+    assert_rounds(b.web.rho, "0.414");
+    assert_rounds(b.be1[0], "32.9");
+    assert_rounds(b.be1[1], "31.3");
+    assert_rounds(b.he, "41");
+}
+
+#[test]
+fn stiffeners_before_refining() {
+    let b = sheet_b();
+    let first = b.rounds[0];
+    let [one, two] = first.stiffeners;
+    let t = b.lengths.t;
+    assert_rounds(t * one.a, "103.3");
+    assert_rounds(t * two.a, "100.2");
+    assert_rounds(one.g, "61.73");
+    assert_rounds(two.g, "54.41");
+    assert_rounds(first.kf, "0.97");
+    assert_rounds(t * one.j, "3663");
+    assert_rounds(t * two.j, "3618");
+    assert_rounds(one.ud, "1.064");
+    assert_rounds(two.ud, "0.999");
+    assert_rounds(one.chi, "0.701");
+    assert_rounds(two.chi, "0.75");
+}
+
+#[test]
+fn stiffeners_refined() {
+    let b = sheet_b();
+    let [one, two] = b.rounds[1].stiffeners;
+    assert_rounds(one.be2, "36");
+    assert_rounds(two.be2, "32");
+    assert_rounds(one.c_eff, "19.8");
+    assert_rounds(two.c_eff, "19.8");
+    assert_rounds(one.chi, "0.693");
+    assert_rounds(two.chi, "0.749");
+    assert_rounds(one.chi, "0.69");
+    assert_rounds(two.chi, "0.75");
+}
+
+#[test]
+fn area_and_axis() {
+    let b = sheet_b();
+    assert_rounds(b.lengths.t * b.gross_length, "732");
+    assert_rounds(b.gross_z, "96.88");
+    assert_rounds(b.z, "98.3");
+}
+
+/// Without rounds: 433.88 mm² and 98.82 mm, which 002 has from rounded
+/// parts, so the last place is not asked.
+#[test]
+fn area_and_axis_without_rounds() {
+    let b = worked(&Sheet {
+        rounds: 0,
+        ..SHEET_B
+    });
+    assert_rounds(b.area, "434");
+    assert_rounds(b.z, "98.8");
+}
+
+/// With 002's own rounded parts, area and axis are as it prints them.
+#[test]
+fn area_and_axis_from_rounded_parts() {
+    let s = Scale::multiple(1);
+    let rounded = Parts {
+        hp: s.whole(198),
+        he: s.whole(41),
+        be1: [s.exact(329, 10), s.exact(313, 10)],
+        be2: [s.whole(36), s.whole(32)],
+        c_eff: [s.exact(198, 10); 2],
+        chi: [s.exact(69, 100), s.exact(75, 100)],
+    };
+    let length = rounded.total_length();
+    assert_rounds(s.exact(196, 100) * length, "438.16");
+    assert_rounds(rounded.moment() / length, "98.39");
+}
