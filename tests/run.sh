@@ -6,6 +6,7 @@ cd "$(dirname "$0")/.."
 # The expected output of the cases is what exact arithmetic gives, and not what the program printed.
 if command -v python3 >/dev/null; then
     python3 tests/pair_cases.py --check
+    python3 tests/text_cases.py --check
 else
     echo "python3 is not here: expected output is taken as kept, and not made anew"
 fi

@@ -1,16 +1,20 @@
 // Works the sections of standard input, one to a line: the twelve numbers of a sheet in decimal,
 // with a blank between. Prints the line of results of each that meets questions 2 to 10, and
-// `refused` for any other. tests/section_cases.sh has the reference write the sections and what is
-// to be printed. Then prints every pair of the working of sheet B.
+// `refused` with the question and the line for any other. tests/section_cases.sh has the reference
+// write the sections and what is to be printed. Then prints every pair of the working of sheet B.
 mod planes;
 mod print;
 mod stiffness;
 mod trace;
 
+use certificate::Found;
+use certificate::questions;
+use certificate::refusals;
 use section::Core;
 use section::Nominal;
 use section::Sheet;
 use section::sections;
+ghost use Rattle.section.specs.Sheets.{Sound};
 
 // A line as far as it is read.
 struct Line {
@@ -71,14 +75,21 @@ fn sheet_of(line: Line) -> Sheet {
     }
 }
 
+// A section that meets questions 2 to 10.
+fn work(q: Sheet)
+    requires { ⌜ Sound q ⌝ }
+{
+    let w = sections::work(1, q);
+    let f = sections::figures_of(1, q, w);
+    print::line(w, f);
+}
+
 fn run(q: Sheet) {
-    if section_checked::is_sound(q) {
-        let w = sections::work(1, q);
-        let f = sections::figures_of(1, q, w);
-        print::line(w, f);
-        return;
+    let found = questions::first_refusal(q);
+    match found {
+        Found::Refused(r) => print::refused(refusals::told_of(r)),
+        Found::Met => work(q),
     }
-    print::text(b"refused\n");
 }
 
 fn with_bytes(line: Line, bytes: &[u8]) -> Line {

@@ -1,4 +1,5 @@
 // What is printed.
+use certificate::Answer;
 use libc::STDOUT_FILENO;
 use pair::Pair;
 use pair::signed::Integer;
@@ -114,5 +115,13 @@ pub fn both(when: When, name: &[u8], one: Pair, two: Pair) {
 pub fn signed(name: &[u8], a: Signed) {
     text(name);
     signed_ends(a);
+    text(b"\n");
+}
+
+// The question and the line of a refusal.
+pub fn refused(a: Answer) {
+    text(b"refused");
+    number(a.refusal);
+    number(a.line);
     text(b"\n");
 }

@@ -1,42 +1,43 @@
--- `section_cases::run` is safe: a section that passes the test is sound.
+-- `section_cases::run` is safe: a section that no question refuses is sound.
+use mathlib.Core.Path.{sym, _∙_}
+use Rattle.certificate.proofs.Theorems.{met-is-sound}
 use borrow.Author.Needs.{needs}
-use Rattle.section_cases.proofs.OneRound.{fine}
 use Rattle.section_cases.proofs.run.Statement.{statement}
 use Rattle.section_cases.proofs.run.Tie as tie
 
-is-sound-requires : tie.Need-is-sound-requires
-is-sound-requires c κs = search needs
+first-refusal-requires : tie.Need-first-refusal-requires
+first-refusal-requires c κs = search needs
+
+enum-known-found : tie.Need-enum-known-found
+enum-known-found c = search needs
+
+told-of-requires : tie.Need-told-of-requires
+told-of-requires c κs = search needs
+
+refused-requires : tie.Need-refused-requires
+refused-requires c κs = search needs
+
+enum-told : tie.Need-enum-told
+enum-told c = search needs
 
 work-requires : tie.Need-work-requires
-work-requires c κs = (fine, c .before .is-sound .ensures .sound (c .if1 .taken))
-
-figures-of-requires : tie.Need-figures-of-requires
-figures-of-requires c κs = (fine, c .before .before .is-sound .ensures .sound (c .before .if1 .taken), c .work .ensures)
-
-line-requires : tie.Need-line-requires
-line-requires c κs = tt
+work-requires c κs = met-is-sound _ .0 (sym (c .before .before .first-refusal .ensures) ∙ c .enum-told .given .1)
 
 returns : tie.Need-returns
-returns c = tt
-
-slice-aggregate-text : tie.Need-slice-aggregate-text
-slice-aggregate-text c = search needs
-
-text-requires : tie.Need-text-requires
-text-requires c κs = tt
+returns c = search needs
 
 returns-2 : tie.Need-returns-2
-returns-2 c = tt
+returns-2 c = search needs
 
 pub run-spec : {M : Type 1} → statement M
 run-spec =
     tie.close
     (tie.spec
-    is-sound-requires
+    first-refusal-requires
+    enum-known-found
+    told-of-requires
+    refused-requires
+    enum-told
     work-requires
-    figures-of-requires
-    line-requires
     returns
-    slice-aggregate-text
-    text-requires
     returns-2)

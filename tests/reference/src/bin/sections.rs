@@ -50,14 +50,14 @@ fn write_sections(inputs: &str, results: &str) -> io::Result<()> {
 }
 
 /// A sheet that meets questions 2 to 10 has its line of results, any other
-/// `refused`.
+/// `refused`, the question and the line.
 fn write_edges(inputs: &str, results: &str) -> io::Result<()> {
     let all = edges();
     let result_lines: String = all
         .iter()
         .map(|numbers| match ask_before_working(*numbers) {
             Ok(sheet) => result_line(&sheet, &worked(&sheet)),
-            Err(_) => "refused\n".to_string(),
+            Err(refusal) => format!("refused {} {}\n", refusal.number, refusal.line),
         })
         .collect();
     fs::write(inputs, all.iter().map(|n| line(n)).collect::<String>())?;

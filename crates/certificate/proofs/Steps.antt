@@ -1,0 +1,56 @@
+-- The steps of the code that answers: the second question, and the eleventh.
+use mathlib.Core.Path.{_≡_, refl, sym, _∙_}
+use mathlib.Core.Bool.{Bool, true, false, cond}
+use mathlib.Core.List.{List, [], _∷_, _++_}
+use Rattle.section.specs.declared.Sheet.{Sheet}
+use Rattle.section.specs.declared.Figures.{Figures}
+use Rattle.section.specs.Figures.{figures, allowed}
+use Rattle.section.specs.Forms.{printedOf}
+use Rattle.certificate.specs.declared.Refusal.{Refusal}
+use Rattle.certificate.specs.declared.Refusal.the-variants.{Allowance}
+use Rattle.certificate.specs.declared.Found.{Found}
+use Rattle.certificate.specs.declared.Found.the-variants.{Refused, Met}
+use Rattle.certificate.specs.declared.Verdict.the-variants.{Accepted}
+use Rattle.certificate.specs.Questions.{Asked, Judged, question2, question11, onNumbers, questions, from, _then_, firstOf, firstIn, firstRefusal, refused, judged, judgedOf, verdict}
+
+then-nothing : (f : Found) → (f then Met) ≡ f
+then-nothing Met = refl
+then-nothing (Refused r) = refl
+
+then-then : (f g h : Found) → (f then (g then h)) ≡ ((f then g) then h)
+then-then Met g h = refl
+then-then (Refused r) g h = refl
+
+in-turn : (ps qs : List (List Asked)) → firstIn (ps ++ qs) ≡ (firstIn ps then firstIn qs)
+unfolding firstIn
+in-turn [] qs = refl
+in-turn (cs ∷ ps) qs = rw (in-turn ps qs) (then-then (firstOf cs) (firstIn ps) (firstIn qs))
+
+module _ (q : Sheet) where
+  pub refused-second : {f : Found} {r : Refusal} → f ≡ firstOf (question2 q) → f ≡ Refused r → Refused r ≡ firstRefusal q
+  unfolding firstRefusal onNumbers firstIn
+  refused-second e k = rw (sym e ∙ k)
+
+  pub passed-second : {f g : Found} → f ≡ firstOf (question2 q) → f ≡ Met → g ≡ firstIn (from 3 q) → g ≡ firstRefusal q
+  unfolding firstRefusal onNumbers from firstIn
+  passed-second e k l = rw (sym e ∙ k) l
+
+  eleventh : firstOf (question11 q) ≡ cond (allowed 1 q) Met (Refused Allowance)
+  unfolding question11 firstOf allowed
+  eleventh = refl
+
+  pub within : {b : Bool} (f : Figures) → b ≡ allowed 1 q → b ≡ true → printedOf f ≡ figures 1 q → judgedOf (Accepted f) ≡ judged (firstOf (question11 q)) (figures 1 q)
+  unfolding judged judgedOf
+  within f e k p = rw (eleventh, sym e ∙ k, p)
+
+  pub beyond : {b : Bool} → b ≡ allowed 1 q → b ≡ false → refused Allowance ≡ judged (firstOf (question11 q)) (figures 1 q)
+  unfolding judged
+  beyond e k = rw (eleventh, sym e ∙ k)
+
+  pub refused-before : {f : Found} {r : Refusal} → f ≡ firstRefusal q → f ≡ Refused r → refused r ≡ verdict q
+  unfolding judged verdict questions firstRefusal
+  refused-before e k = rw (in-turn (onNumbers q) (question11 q ∷ []), sym e ∙ k)
+
+  pub passed-before : {f : Found} {v : Judged} → f ≡ firstRefusal q → f ≡ Met → v ≡ judged (firstOf (question11 q)) (figures 1 q) → v ≡ verdict q
+  unfolding judged verdict questions firstRefusal firstIn
+  passed-before e k l = rw (in-turn (onNumbers q) (question11 q ∷ []), sym e ∙ k, then-nothing (firstOf (question11 q))) l

@@ -1,0 +1,31 @@
+-- `certificate::questions::allowance` meets its contract.
+use mathlib.Core.Path.{ap}
+use Rattle.section.specs.Forms.{printedOf}
+use Rattle.section.specs.Figures.{Printed}
+use Rattle.certificate.specs.Questions.{judgedOf}
+use Rattle.certificate.proofs.Steps.{within, beyond}
+use borrow.Author.Needs.{needs}
+use Rattle.certificate.proofs.questions.allowance.Statement.{statement}
+use Rattle.certificate.proofs.questions.allowance.Tie as tie
+
+work-requires : tie.Need-work-requires
+work-requires c κs = search needs
+
+figures-of-requires : tie.Need-figures-of-requires
+figures-of-requires c κs = search needs
+
+within-allowance-requires : tie.Need-within-allowance-requires
+unfolding printedOf
+within-allowance-requires c κs = (search needs, search needs, search needs, ap (λ (p : Printed). p .area) (c .figures-of .ensures))
+
+returns : tie.Need-returns
+returns c = within _ (c .before .before .figures-of .result) (c .before .within-allowance .ensures) (c .if1 .taken) (c .before .before .figures-of .ensures)
+
+returns-2 : tie.Need-returns-2
+unfolding judgedOf
+returns-2 c = beyond _ (c .before .within-allowance .ensures) (c .if1 .left)
+
+pub allowance-spec : {M : Type 1} → statement M
+allowance-spec =
+    tie.close
+    (tie.spec work-requires figures-of-requires within-allowance-requires returns returns-2)

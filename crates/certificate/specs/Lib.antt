@@ -1,0 +1,4 @@
+pub mod Refusals
+pub mod Claims
+pub mod Questions
+pub mod Reasons

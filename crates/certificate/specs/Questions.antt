@@ -1,0 +1,167 @@
+-- The questions on twelve numbers, in order, and what they give. (Document 01, "The questions, in this order".)
+use Prim.Native.Nat.{ℕ, _+_, _-_, _*_}
+use mathlib.Core.Bool.{cond}
+use mathlib.Core.List.{List, [], _∷_, _++_}
+use mathlib.Core.Path.{_≡_}
+use lib.ListN.{drop}
+use Rattle.section.specs.declared.Sheet.{Sheet}
+use Rattle.section.specs.Working.{S, worked}
+use Rattle.section.specs.Figures.{Printed, figures}
+use Rattle.section.specs.Forms.{printedOf}
+use Rattle.certificate.specs.declared.Span.{Span}
+use Rattle.certificate.specs.declared.Refusal.{Refusal}
+use Rattle.certificate.specs.declared.Refusal.the-variants.{Range, Thickness, FlangeWidth, LipLength, Depth, LipRatio, Radius, MidLineRatio, Form, Allowance}
+use Rattle.certificate.specs.declared.Found.{Found}
+use Rattle.certificate.specs.declared.Found.the-variants.{Refused, Met}
+use Rattle.certificate.specs.declared.Verdict.{Verdict}
+use Rattle.certificate.specs.declared.Verdict.the-variants.{Refused as Turned, Accepted}
+use Rattle.certificate.specs.Claims.{Claim, _≤?_, _≡?_, _and_, _or_, test}
+
+-- a sheet of twelve numbers, in the order of the lines
+abbrev pub sheetOf : ℕ → ℕ → ℕ → ℕ → ℕ → ℕ → ℕ → ℕ → ℕ → ℕ → ℕ → ℕ → Sheet
+sheetOf form h b1 b2 c r tnom t fyb gm0 rounds allow =
+    record {
+      form = form;
+      h = h;
+      b1 = b1;
+      b2 = b2;
+      c = c;
+      r = r;
+      tnom = record { 0 = tnom };
+      t = record { 0 = t };
+      fyb = fyb;
+      gm0 = gm0;
+      rounds = rounds;
+      allow = allow;
+    }
+
+-- what is asked, and the refusal where it is not so
+infix 30 _else_
+pub data Asked : Type 0 where
+  _else_ : Claim → Refusal → Asked
+
+infix 80 _to_
+abbrev _to_ : ℕ → ℕ → Span
+least to most = record { least = least; most = most }
+
+-- the ranges, and the values, in the order of the lines
+unfoldable pub ranges : List Span
+ranges =
+    0 to 1 ∷ 4000 to 50000 ∷ 2000 to 20000 ∷ 2000 to 20000 ∷ 500 to 12000 ∷ 0 to 3000
+    ∷ 50 to 600 ∷ 45 to 600 ∷ 200 to 700 ∷ 1000 to 1500 ∷ 0 to 8 ∷ 0 to 1000 ∷ []
+
+unfoldable pub values : Sheet → List ℕ
+values q =
+    q .form ∷ q .h ∷ q .b1 ∷ q .b2 ∷ q .c ∷ q .r ∷ q .tnom .0 ∷ q .t .0 ∷ q .fyb ∷ q .gm0 ∷ q .rounds ∷ q .allow ∷ []
+
+abbrev pub inside : Span → ℕ → Claim
+inside s v = s .least ≤? v and v ≤? s .most
+
+-- each value in its range, the first of them on this line
+unfoldable pub ranged : ℕ → List Span → List ℕ → List Asked
+ranged line [] vs = []
+ranged line (s ∷ ss) [] = []
+ranged line (s ∷ ss) (v ∷ vs) = (inside s v else Range line) ∷ ranged (line + 1) ss vs
+
+-- a flange's width, and its lip, on outer lengths and on the mid-lines (twice, since cp = c − tnom/2 may have half hundredths)
+abbrev pub width : ℕ → ℕ → Claim
+width b t = b ≤? 60 * t
+
+abbrev pub lip : ℕ → ℕ → Claim
+lip b c = b ≤? 5 * c and 5 * c ≤? 3 * b
+
+abbrev pub mid-line-lip : ℕ → ℕ → ℕ → Claim
+mid-line-lip b c tnom = 5 * (2 * c - tnom) ≤? 6 * (b - tnom)
+
+-- Is every value in range?
+unfoldable pub question2 : Sheet → List Asked
+question2 q = ranged 1 ranges (values q)
+
+-- t ≤ tnom?
+unfoldable pub question3 : Sheet → List Asked
+question3 q = (q .t .0 ≤? q .tnom .0 else Thickness) ∷ []
+
+-- b ≤ 60t, flange 1 then 2?
+unfoldable pub question4 : Sheet → List Asked
+question4 q = (width (q .b1) (q .t .0) else FlangeWidth 3) ∷ (width (q .b2) (q .t .0) else FlangeWidth 4) ∷ []
+
+-- c ≤ 50t?
+unfoldable pub question5 : Sheet → List Asked
+question5 q = (q .c ≤? 50 * q .t .0 else LipLength) ∷ []
+
+-- h ≤ 500t?
+unfoldable pub question6 : Sheet → List Asked
+question6 q = (q .h ≤? 500 * q .t .0 else Depth) ∷ []
+
+-- b ≤ 5c and 5c ≤ 3b, flange 1 then 2?
+unfoldable pub question7 : Sheet → List Asked
+question7 q = (lip (q .b1) (q .c) else LipRatio 3) ∷ (lip (q .b2) (q .c) else LipRatio 4) ∷ []
+
+-- r ≤ 5t and 10r ≤ bp1 and 10r ≤ bp2?
+unfoldable pub question8 : Sheet → List Asked
+question8 q =
+    (q .r ≤? 5 * q .t .0 and 10 * q .r ≤? q .b1 - q .tnom .0 and 10 * q .r ≤? q .b2 - q .tnom .0 else Radius) ∷ []
+
+-- 5cp ≤ 3bp, flange 1 then 2?
+unfoldable pub question9 : Sheet → List Asked
+question9 q =
+    (mid-line-lip (q .b1) (q .c) (q .tnom .0) else MidLineRatio 3) ∷ (mid-line-lip (q .b2) (q .c) (q .tnom .0) else MidLineRatio 4) ∷ []
+
+-- Form Z, or 2c ≤ h?
+unfoldable pub question10 : Sheet → List Asked
+question10 q = (q .form ≡? 1 or 2 * q .c ≤? q .h else Form) ∷ []
+
+-- Is the area's upper end at most area + allow, as worked at our scale?
+unfoldable pub question11 : Sheet → List Asked
+question11 q = ((worked 1 q) .area .hi * 100 ≤? ((figures 1 q) .area + q .allow) * S 1 else Allowance) ∷ []
+
+-- the questions that need no working, and all of them up to the eleventh; the first is the second of the paper
+unfoldable pub onNumbers : Sheet → List (List Asked)
+onNumbers q =
+    question2 q ∷ question3 q ∷ question4 q ∷ question5 q ∷ question6 q ∷ question7 q ∷ question8 q ∷ question9 q ∷ question10 q ∷ []
+
+unfoldable pub questions : Sheet → List (List Asked)
+questions q = onNumbers q ++ (question11 q ∷ [])
+
+-- the first "no" of one question, and of several
+unfoldable pub firstOf : List Asked → Found
+firstOf [] = Met
+firstOf ((a else r) ∷ cs) = cond (test a) (firstOf cs) (Refused r)
+
+-- where the first is met, the second is asked
+infixr 40 _then_
+abbrev pub _then_ : Found → Found → Found
+Met then f = f
+(Refused r) then f = Refused r
+
+unfoldable pub firstIn : List (List Asked) → Found
+firstIn [] = Met
+firstIn (cs ∷ qs) = firstOf cs then firstIn qs
+
+-- f is the first "no" of these questions
+pub record First (qs : List (List Asked)) (f : Found) : Type 0 where
+  pub first : f ≡ firstIn qs
+
+-- the questions from the k-th of the paper on, up to the tenth
+unfoldable pub from : ℕ → Sheet → List (List Asked)
+from k q = drop (k - 2) (onNumbers q)
+
+unfoldable pub firstRefusal : Sheet → Found
+firstRefusal q = firstIn (onNumbers q)
+
+-- what a sheet gives before anything is written
+pub data Judged : Type 0 where
+  refused : Refusal → Judged
+  accepted : Printed → Judged
+
+unfoldable pub judged : Found → Printed → Judged
+judged (Refused r) p = refused r
+judged Met p = accepted p
+
+unfoldable pub verdict : Sheet → Judged
+verdict q = judged (firstIn (questions q)) (figures 1 q)
+
+-- what the code's answer stands for
+unfoldable pub judgedOf : Verdict → Judged
+judgedOf (Turned r) = refused r
+judgedOf (Accepted f) = accepted (printedOf f)

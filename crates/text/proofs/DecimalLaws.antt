@@ -1,0 +1,97 @@
+-- Numbers in decimal: by the last digit, their length, and how the code writes them.
+use Prim.Native.Nat.{ℕ, zero, suc, _+_, _/_, _%_, _^_, _≤_, _<_}
+use mathlib.Core.Bool.{Bool, true, false}
+use mathlib.Core.List.{List, [], _∷_, _++_}
+use mathlib.Core.Path.{_≡_, refl, sym, ap, _∙_}
+use native.Mathlib.Omega.{arith}
+use borrow.Author.Tests.{lt-ltb, le-ltb, ltb-true, ltb-false}
+use lib.Dec.{ltb}
+use lib.IntN.{ℤ, pos, negsuc, negℤ, natAbs}
+use lib.ListN.{length, set}
+use Rattle.pair.specs.SignedPairs.{integer}
+use Rattle.pair.specs.declared.signed.Integer.{Integer}
+use Rattle.pair.proofs.IntegerForms.{integer-size}
+use Rattle.text.specs.Decimal.{digit0, minus, digitsIn, decimal, negative, integerText}
+use Rattle.text.specs.Lines.{over}
+use Rattle.text.proofs.LentParts.{length-snoc, over-first, over-set}
+
+-- a number below ten is one digit, however many steps are allowed
+in-small : (k n : ℕ) → n < 10 → digitsIn k n ≡ (digit0 + n) ∷ []
+unfolding digitsIn
+in-small zero n h = refl
+in-small (suc k) n h = ap (λ (b : Bool). elim b as (λ x. List ℕ) [ true ↦ (digit0 + n) ∷ [] | false ↦ digitsIn k (n / 10) ++ ((digit0 + n % 10) ∷ []) ]) (lt-ltb n 10 h)
+
+in-step : (k n : ℕ) → 10 ≤ n → digitsIn (suc k) n ≡ digitsIn k (n / 10) ++ ((digit0 + n % 10) ∷ [])
+unfolding digitsIn
+in-step k n h = ap (λ (b : Bool). elim b as (λ x. List ℕ) [ true ↦ (digit0 + n) ∷ [] | false ↦ digitsIn k (n / 10) ++ ((digit0 + n % 10) ∷ []) ]) (le-ltb n 10 h)
+
+-- any number of steps from n on gives the same
+enough : (k m n : ℕ) → n ≤ k → n ≤ m → digitsIn k n ≡ digitsIn m n
+enough zero m n h g = in-small zero n (omega arith) ∙ sym (in-small m n (omega arith))
+enough (suc k) zero n h g = in-small (suc k) n (omega arith) ∙ sym (in-small zero n (omega arith))
+enough (suc k) (suc m) n h g = go (ltb n 10) refl (enough k m (n / 10))
+  where
+    go : (b : Bool) → ltb n 10 ≡ b → (n / 10 ≤ k → n / 10 ≤ m → digitsIn k (n / 10) ≡ digitsIn m (n / 10)) → digitsIn (suc k) n ≡ digitsIn (suc m) n
+    go true e r = let l : n < 10 = ltb-true n 10 e in in-small (suc k) n l ∙ sym (in-small (suc m) n l)
+    go false e r =
+        let l : 10 ≤ n = ltb-false n 10 e in
+        in-step k n l ∙ ap (λ (x : List ℕ). x ++ ((digit0 + n % 10) ∷ [])) (r (omega arith) (omega arith)) ∙ sym (in-step m n l)
+
+pub decimal-small : (n : ℕ) → n < 10 → decimal n ≡ (digit0 + n) ∷ []
+unfolding decimal
+decimal-small n h = in-small n n h
+
+pub decimal-step : (n : ℕ) → 10 ≤ n → decimal n ≡ decimal (n / 10) ++ ((digit0 + n % 10) ∷ [])
+unfolding decimal
+decimal-step zero h = absurd (omega arith)
+decimal-step (suc k) h =
+    in-step k (suc k) h ∙ ap (λ (x : List ℕ). x ++ ((digit0 + suc k % 10) ∷ [])) (enough k (suc k / 10) (suc k / 10) (omega arith) (omega arith))
+
+pub length-small : (n : ℕ) → n < 10 → length (decimal n) ≡ 1
+length-small n h = ap length (decimal-small n h)
+
+pub length-step : (n : ℕ) → 10 ≤ n → length (decimal n) ≡ length (decimal (n / 10)) + 1
+length-step n h = ap length (decimal-step n h) ∙ length-snoc (decimal (n / 10)) (digit0 + n % 10)
+
+-- a number below 10 ^ suc k has at most suc k digits
+pub decimal-length : (k n : ℕ) → n < 10 ^ suc k → length (decimal n) ≤ suc k
+decimal-length zero n h = omega (arith, length-small n h)
+decimal-length (suc k) n h = go (ltb n 10) refl (decimal-length k (n / 10))
+  where
+    go : (b : Bool) → ltb n 10 ≡ b → (n / 10 < 10 ^ suc k → length (decimal (n / 10)) ≤ suc k) → length (decimal n) ≤ suc (suc k)
+    go true e r = omega (arith, length-small n (ltb-true n 10 e))
+    go false e r = omega (arith, length-step n (ltb-false n 10 e), r (omega arith))
+
+pub put-small : (n : ℕ) (b : List ℕ) → n < 10 → 0 < length b → set b 0 (digit0 + n) ≡ over (decimal n) b
+put-small n b h g = rw (decimal-small n h) (over-first (digit0 + n) b g)
+
+pub put-step : (n r : ℕ) (d b : List ℕ) → 10 ≤ n → length (decimal n) ≤ length b → r ≡ length (decimal (n / 10)) → d ≡ over (decimal (n / 10)) b
+    → set d r (digit0 + n % 10) ≡ over (decimal n) b
+put-step n r d b h k er ed =
+    ap (λ (l : List ℕ). set l r (digit0 + n % 10)) ed ∙ ap (λ (i : ℕ). set (over (decimal (n / 10)) b) i (digit0 + n % 10)) er
+    ∙ over-set (decimal (n / 10)) b (digit0 + n % 10) (omega (arith, length-step n h))
+    ∙ ap (λ (l : List ℕ). over l b) (sym (decimal-step n h))
+
+-- an integer is a minus, where it lies below zero, and its size
+
+minus-text : (v : ℤ) → negative v ≡ true → integerText v ≡ (minus ∷ []) ++ decimal (natAbs v)
+unfolding integerText
+minus-text (pos n) e = absurd (let z : _≡_ {A = ℕ} 0 1 = cc in omega arith)
+minus-text (negsuc n) e = refl
+
+plain-text : (v : ℤ) → negative v ≡ false → integerText v ≡ decimal (natAbs v)
+unfolding integerText
+plain-text (pos n) e = refl
+plain-text (negsuc n) e = absurd (let z : _≡_ {A = ℕ} 0 1 = cc in omega arith)
+
+pub negative-size : (n : ℕ) → ltb 0 n ≡ negative (negℤ (pos n))
+negative-size zero = refl
+negative-size (suc n) = lt-ltb 0 (suc n) (omega arith)
+
+-- the same of an integer as the code holds it
+module _ (z : Integer) where
+  pub code-minus-text : negative (integer z) ≡ true → integerText (integer z) ≡ (minus ∷ []) ++ decimal (z .size)
+  code-minus-text e = minus-text (integer z) e ∙ ap (λ (n : ℕ). minus ∷ decimal n) (integer-size z)
+
+  pub code-plain-text : negative (integer z) ≡ false → integerText (integer z) ≡ decimal (z .size)
+  code-plain-text e = plain-text (integer z) e ∙ ap decimal (integer-size z)

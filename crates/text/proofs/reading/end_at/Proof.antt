@@ -1,0 +1,33 @@
+-- `reading::end_at` meets its contract.
+use borrow.Author.Needs.{needs}
+use mathlib.Core.Path.{sym}
+use native.Mathlib.Omega.{arith}
+use lib.IntN.{pos}
+use Rattle.pair.specs.SignedPairs.{integer}
+use Rattle.text.specs.Forms.{front, Within}
+use Rattle.text.proofs.ReadSteps.{ended-right, ended-bad}
+use Rattle.text.proofs.reading.end_at.Statement.{statement}
+use Rattle.text.proofs.reading.end_at.Tie as tie
+
+byte-at-requires : tie.Need-byte-at-requires
+byte-at-requires c κs = search needs
+
+add-next : tie.Need-add-next
+add-next c = omega (arith, c .before .byte-at .ensures .1 (omega arith))
+
+returns : tie.Need-returns
+unfolding front Within integer
+returns c =
+    let a = c .before .before .before .args in
+    let b = c .before .byte-at in
+    (sym (ended-right (a .s .now) (a .at) (b .result) (b .ensures .0) (pos (a .size)) (c .if1 .taken)), omega (arith, b .ensures .1 (omega arith)))
+
+returns-2 : tie.Need-returns-2
+unfolding front Within
+returns-2 c =
+    let a = c .before .before .before .args in
+    let b = c .before .byte-at in
+    (sym (ended-bad (a .s .now) (a .at) (b .result) (b .ensures .0) (pos (a .size)) (c .if1 .left)), tt)
+
+pub end-at-spec : {M : Type 1} → statement M
+end-at-spec = tie.close (tie.spec byte-at-requires add-next returns returns-2)

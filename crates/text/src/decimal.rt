@@ -1,0 +1,69 @@
+// Integers in decimal, with no leading zero and no minus before 0.
+use pair::signed::Integer;
+ghost use mathlib.Core.Path.{_≡_};
+ghost use Prim.Native.Nat.{_≤_};
+ghost use lib.ListN.{length};
+ghost use Rattle.pair.specs.SignedPairs.{integer};
+ghost use Rattle.text.specs.Decimal.{decimal, negative, integerText};
+ghost use Rattle.text.specs.Lines.{over};
+
+// How many digits n has.
+pub fn width(n: u64) -> usize
+    ensures { λ r. ⌜ r ≡ length (decimal n) ⌝ }
+    ensures { λ r. ⌜ r ≤ 20 ⌝ }
+{
+    if n < 10 {
+        return 1;
+    }
+    width(n / 10) + 1
+}
+
+// Writes n at the start of out, and answers its length.
+pub fn put_decimal(out: &mut [u8], n: u64) -> usize
+    requires { ⌜ length (decimal n) ≤ length (now out) ⌝ }
+    ensures { λ r. ⌜ r ≡ length (decimal n) ⌝ }
+    ensures { λ _. ⌜ now (out .exit) ≡ over (decimal n) (now (out .entry)) ⌝ }
+{
+    if n < 10 {
+        out[0] = b'0' + n as u8;
+        return 1;
+    }
+    let k = put_decimal(out, n / 10);
+    out[k] = b'0' + (n % 10) as u8;
+    k + 1
+}
+
+// Whether v has a minus: none stands before 0.
+fn has_minus(v: Integer) -> bool
+    ensures { λ r. ⌜ r ≡ negative (integer v) ⌝ }
+{
+    let below = v.below;
+    if below {
+        return v.size > 0;
+    }
+    false
+}
+
+// How many bytes v takes.
+pub fn integer_width(v: Integer) -> usize
+    ensures { λ r. ⌜ r ≡ length (integerText (integer v)) ⌝ }
+    ensures { λ r. ⌜ r ≤ 21 ⌝ }
+{
+    if has_minus(v) {
+        return 1 + width(v.size);
+    }
+    width(v.size)
+}
+
+// Writes v at the start of out, and answers its length.
+pub fn put_integer(out: &mut [u8], v: Integer) -> usize
+    requires { ⌜ length (integerText (integer v)) ≤ length (now out) ⌝ }
+    ensures { λ r. ⌜ r ≡ length (integerText (integer v)) ⌝ }
+    ensures { λ _. ⌜ now (out .exit) ≡ over (integerText (integer v)) (now (out .entry)) ⌝ }
+{
+    if has_minus(v) {
+        out[0] = b'-';
+        return 1 + put_decimal(&mut out[1..], v.size);
+    }
+    put_decimal(out, v.size)
+}
