@@ -1,9 +1,14 @@
 -- `reading::end_at` meets its contract.
 use borrow.Author.Needs.{needs}
-use mathlib.Core.Path.{sym}
+use Prim.Native.Nat.{_+_}
+use mathlib.Core.Bool.{false}
+use mathlib.Core.Path.{refl, sym, ap, _∙_}
 use native.Mathlib.Omega.{arith}
-use lib.IntN.{pos}
-use Rattle.pair.specs.SignedPairs.{integer}
+use lib.IntN.{ℤ, pos}
+use lib.ListN.{drop}
+use Rattle.pair.specs.declared.signed.Integer.{Integer}
+use Rattle.pair.proofs.IntegerForms.{above-is}
+use Rattle.text.specs.Reading.{got}
 use Rattle.text.specs.Forms.{front, Within}
 use Rattle.text.proofs.ReadSteps.{ended-right, ended-bad}
 use Rattle.text.proofs.reading.end_at.Statement.{statement}
@@ -16,11 +21,12 @@ add-next : tie.Need-add-next
 add-next c = omega (arith, c .before .byte-at .ensures .1 (omega arith))
 
 returns : tie.Need-returns
-unfolding front Within integer
+unfolding front Within
 returns c =
     let a = c .before .before .before .args in
     let b = c .before .byte-at in
-    (sym (ended-right (a .s .now) (a .at) (b .result) (b .ensures .0) (pos (a .size)) (c .if1 .taken)), omega (arith, b .ensures .1 (omega arith)))
+    let v : Integer = record { size = a .size; below = false } in
+    (ap (λ (z : ℤ). got z (drop (a .at + 1) (a .s .now))) (above-is v refl) ∙ sym (ended-right (a .s .now) (a .at) (b .result) (b .ensures .0) (pos (a .size)) (c .if1 .taken)), omega (arith, b .ensures .1 (omega arith)))
 
 returns-2 : tie.Need-returns-2
 unfolding front Within

@@ -2,13 +2,14 @@
 use borrow.Author.Needs.{needs}
 use Prim.Native.Nat.{ℕ, _+_, _≤_}
 use mathlib.Core.List.{List}
-use mathlib.Core.Path.{_≡_, sym, ap, _∙_, subst}
+use mathlib.Core.Bool.{true}
+use mathlib.Core.Path.{_≡_, refl, sym, ap, _∙_, subst}
 use native.Mathlib.Omega.{arith}
-use lib.IntN.{pos, negℤ}
+use lib.IntN.{ℤ, pos, negℤ}
 use lib.ListN.{length, drop}
 use Rattle.pair.specs.SignedPairs.{integer}
 use Rattle.pair.specs.declared.signed.Integer.{Integer}
-use Rattle.pair.proofs.IntegerForms.{integer-size}
+use Rattle.pair.proofs.IntegerForms.{below-is, integer-size}
 use Rattle.text.specs.Reading.{got, readNumber, negated, readShift}
 use Rattle.text.specs.Forms.{front, Within}
 use Rattle.text.proofs.ReadSteps.{shift-plain, shift-minus, negated-zero, negated-more, negated-bad}
@@ -75,11 +76,12 @@ enum-told : tie.Need-enum-told
 enum-told c = search needs
 
 returns-3 : tie.Need-returns-3
-unfolding front Within integer
+unfolding front Within
 returns-3 c =
     let f = c .before .before in
-    let size = integer-size (found f) in (
-      sym (below (minus-at f) ∙ negated-more _ (integer (found f)) _ (number-found f) (λ e. c .if2 .left (sym size ∙ e)) ∙ ap (λ (n : ℕ). got (negℤ (pos n)) (drop (next f) (S f))) size),
+    let size = integer-size (found f) in
+    let v : Integer = record { size = (found f) .size; below = true } in (
+      ap (λ (z : ℤ). got z (drop (next f) (S f))) (below-is v refl) ∙ sym (below (minus-at f) ∙ negated-more _ (integer (found f)) _ (number-found f) (λ e. c .if2 .left (sym size ∙ e)) ∙ ap (λ (n : ℕ). got (negℤ (pos n)) (drop (next f) (S f))) size),
       within f,
     )
 
