@@ -1,7 +1,6 @@
 #!/usr/bin/env bash
 # Holds what crates/section_cases reads and has to print against what the reference writes:
-# its sections, sheets at the edges of the questions, and every intermediate pair of sheet B. The
-# two moments of the neutral axis are left out, since crate section gives their quotients alone.
+# its sections, sheets at the edges of the questions, and every intermediate pair of sheet B.
 # With --write, writes both files.
 set -eu
 cd "$(dirname "$0")/.."
@@ -18,7 +17,7 @@ sections --edges "$made/edges" "$made/answers"
 sections --intermediate "$made/pairs"
 cat "$made/inputs" "$made/edges" >"$made/stdin"
 cat "$made/results" "$made/answers" >"$made/stdout"
-grep -v -e '^moment ' -e '^gross\.moment ' "$made/pairs" >>"$made/stdout"
+cat "$made/pairs" >>"$made/stdout"
 
 for file in stdin stdout; do
     if [ "${1:-}" = --write ]; then

@@ -133,7 +133,8 @@ fn with_web(n: u64, hp: Pair, p: Pair, m: Pair, a: Signed) -> Signed
     with_pair(first, near)
 }
 
-fn first_moment(n: u64, hp: Pair, x: Kept) -> Signed
+// The moment of all kept parts about flange 1.
+pub fn first_moment(n: u64, hp: Pair, x: Kept) -> Signed
     requires { ⌜ MomentRoom n hp x ⌝ }
     ensures { λ r. ⌜ meaning r ≡ moment n hp x ⌝ }
 {

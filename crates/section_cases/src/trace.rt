@@ -184,10 +184,12 @@ fn effective_axis(n: u64, hp: Pair, e: Kept, area: Pair)
     requires { ⌜ AxisRoom n hp e ⌝ }
 {
     let length = moments::length(n, e);
+    let moment = moments::first_moment(n, hp, e);
     let axis = moments::axis(n, hp, e, length);
     print::named(When::Outside, b"h", b"e", e.p);
     print::named(When::Outside, b"", b"L", length);
     print::named(When::Outside, b"", b"area", area);
+    print::signed(b"moment", moment);
     print::signed(b"z", axis);
 }
 
@@ -196,8 +198,10 @@ fn gross_axis(n: u64, hp: Pair, g: Kept, shift: Signed)
     requires { ⌜ AxisRoom n hp g ⌝ }
 {
     let length = moments::length(n, g);
+    let moment = moments::first_moment(n, hp, g);
     let axis = moments::axis(n, hp, g, length);
     print::named(When::Outside, b"gross.", b"L", length);
+    print::signed(b"gross.moment", moment);
     print::signed(b"gross.z", axis);
     print::signed(b"shift", shift);
 }

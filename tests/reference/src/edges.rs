@@ -1,6 +1,6 @@
 //! Sheets at the edges of questions 2 to 10: for each number of a section,
-//! the last value on either side that passes, the first that does not, and the
-//! ends of its range.
+//! the last value on either side that passes, the first that does not, the ends
+//! of its range and the numbers just past them.
 
 use crate::generate::{sections, LONGEST_LIP, SHEET_A, SHEET_B};
 use crate::sheet::{ask_before_working, Sheet, RANGES};
@@ -37,6 +37,10 @@ fn edges_of(sheet: &Sheet) -> Vec<[u64; 12]> {
     for (place, (least, greatest)) in RANGES.into_iter().enumerate() {
         found.push(with(sheet, place, least));
         found.push(with(sheet, place, greatest));
+        found.push(with(sheet, place, greatest + 1));
+        if least > 0 {
+            found.push(with(sheet, place, least - 1));
+        }
         for outside in [0, u64::MAX] {
             if !passes(with(sheet, place, outside)) {
                 found.extend(edge(sheet, place, outside).map(|v| with(sheet, place, v)));
