@@ -11,8 +11,13 @@ else
     echo "python3 is not here: expected output is taken as kept, and not made anew"
 fi
 
-# The reference holds to the paper's cases, and the sections and their expected results are its own.
+# The reference holds to the paper's cases, and what the programs read and have to print is its own.
 cargo test --release --offline -q --manifest-path tests/reference/Cargo.toml
 tests/section_cases.sh
+tests/certificate_cases.sh
+
+# The header is C by itself, and the archive behind it answers as the reference does.
+cc -std=c99 -pedantic -Wall -Wextra -Werror -fsyntax-only include/certificate.h
+tests/outside/run.sh
 
 rt ci

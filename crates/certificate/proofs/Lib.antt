@@ -2,6 +2,10 @@ pub mod Tests
 pub mod Order
 pub mod Ranges
 pub mod FirstNos
+pub mod Shown
 pub mod Ties
-pub mod Steps
 pub mod Theorems
+pub mod Steps
+pub mod OutcomeSteps
+pub mod Promises
+pub mod Marked

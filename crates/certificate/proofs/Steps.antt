@@ -1,19 +1,23 @@
 -- The steps of the code that answers: the second question, and the eleventh.
 use mathlib.Core.Path.{_≡_, refl, sym, _∙_}
-use mathlib.Core.Bool.{Bool, true, false, cond}
+use mathlib.Core.Bool.{Bool, true, false}
+use mathlib.Core.Logic.{inl}
 use mathlib.Core.List.{List, [], _∷_, _++_}
 use Rattle.section.specs.declared.Sheet.{Sheet}
 use Rattle.section.specs.declared.Figures.{Figures}
 use Rattle.section.specs.Figures.{figures, allowed}
 use Rattle.section.specs.Forms.{printedOf}
+use Rattle.section.proofs.PrintedFigures.{allowed-is-met, not-allowed-is-unmet}
 use Rattle.certificate.specs.declared.Refusal.{Refusal}
 use Rattle.certificate.specs.declared.Refusal.the-variants.{Allowance}
 use Rattle.certificate.specs.declared.Found.{Found}
 use Rattle.certificate.specs.declared.Found.the-variants.{Refused, Met}
 use Rattle.certificate.specs.declared.Verdict.the-variants.{Accepted}
 use Rattle.certificate.specs.Questions.{Asked, Judged, question2, question11, onNumbers, questions, from, _then_, firstOf, firstIn, firstRefusal, refused, judged, judgedOf, verdict}
+use Rattle.certificate.proofs.FirstNos.{met-when-all, refused-when-no}
+use Rattle.certificate.proofs.Ties.{tied11}
 
-then-nothing : (f : Found) → (f then Met) ≡ f
+pub then-nothing : (f : Found) → (f then Met) ≡ f
 then-nothing Met = refl
 then-nothing (Refused r) = refl
 
@@ -21,7 +25,7 @@ then-then : (f g h : Found) → (f then (g then h)) ≡ ((f then g) then h)
 then-then Met g h = refl
 then-then (Refused r) g h = refl
 
-in-turn : (ps qs : List (List Asked)) → firstIn (ps ++ qs) ≡ (firstIn ps then firstIn qs)
+pub in-turn : (ps qs : List (List Asked)) → firstIn (ps ++ qs) ≡ (firstIn ps then firstIn qs)
 unfolding firstIn
 in-turn [] qs = refl
 in-turn (cs ∷ ps) qs = rw (in-turn ps qs) (then-then (firstOf cs) (firstIn ps) (firstIn qs))
@@ -35,17 +39,20 @@ module _ (q : Sheet) where
   unfolding firstRefusal onNumbers from firstIn
   passed-second e k l = rw (sym e ∙ k) l
 
-  eleventh : firstOf (question11 q) ≡ cond (allowed 1 q) Met (Refused Allowance)
-  unfolding question11 firstOf allowed
-  eleventh = refl
+  eleventh-met : allowed 1 q ≡ true → firstOf (question11 q) ≡ Met
+  eleventh-met e = met-when-all (question11 q) (tied11 q .1 (allowed-is-met 1 q .0 e))
+
+  eleventh-unmet : allowed 1 q ≡ false → firstOf (question11 q) ≡ Refused Allowance
+  unfolding question11
+  eleventh-unmet e = refused-when-no (question11 q) Allowance (inl (λ a. not-allowed-is-unmet 1 q .0 e (tied11 q .0 (a, tt)), refl))
 
   pub within : {b : Bool} (f : Figures) → b ≡ allowed 1 q → b ≡ true → printedOf f ≡ figures 1 q → judgedOf (Accepted f) ≡ judged (firstOf (question11 q)) (figures 1 q)
   unfolding judged judgedOf
-  within f e k p = rw (eleventh, sym e ∙ k, p)
+  within f e k p = rw (eleventh-met (sym e ∙ k), p)
 
   pub beyond : {b : Bool} → b ≡ allowed 1 q → b ≡ false → refused Allowance ≡ judged (firstOf (question11 q)) (figures 1 q)
   unfolding judged
-  beyond e k = rw (eleventh, sym e ∙ k)
+  beyond e k = rw (eleventh-unmet (sym e ∙ k))
 
   pub refused-before : {f : Found} {r : Refusal} → f ≡ firstRefusal q → f ≡ Refused r → refused r ≡ verdict q
   unfolding judged verdict questions firstRefusal

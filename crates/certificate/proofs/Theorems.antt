@@ -16,13 +16,13 @@ use Rattle.certificate.specs.Reasons.{Each, Reason, facts-on-numbers, fa
 use Rattle.certificate.proofs.FirstNos.{each-when-met, met-when-each, reason-when-refused, refused-when-reason}
 use Rattle.certificate.proofs.Ties.{tied11, on-numbers-tied, questions-tied}
 
-each-is-sound : (q : Sheet) → Each (facts-on-numbers q) ↔ Sound q
+pub each-is-sound : (q : Sheet) → Each (facts-on-numbers q) ↔ Sound q
 each-is-sound q = (
   λ h. record { q2 = h .0; q3 = h .1 .0; q4 = h .1 .1 .0; q5 = h .1 .1 .1 .0; q6 = h .1 .1 .1 .1 .0; q7 = h .1 .1 .1 .1 .1 .0; q8 = h .1 .1 .1 .1 .1 .1 .0; q9 = h .1 .1 .1 .1 .1 .1 .1 .0; q10 = h .1 .1 .1 .1 .1 .1 .1 .1 .0 },
   λ s. (s .q2, (s .q3, (s .q4, (s .q5, (s .q6, (s .q7, (s .q8, (s .q9, (s .q10, tt))))))))),
 )
 
-each-of-both : (Ps Qs : List (Type 0)) → Each (Ps ++ Qs) ↔ (Each Ps × Each Qs)
+pub each-of-both : (Ps Qs : List (Type 0)) → Each (Ps ++ Qs) ↔ (Each Ps × Each Qs)
 each-of-both [] Qs = (λ h. (tt, h), λ h. h .1)
 each-of-both (P ∷ Ps) Qs =
     let r = each-of-both Ps Qs in
@@ -44,12 +44,12 @@ refused-with-reason q r = (
   refused-when-reason (onNumbers q) (facts-on-numbers q) (on-numbers-tied q) r,
 )
 
-judged-refused : (f : Found) (p : Printed) (r : Refusal) → (judged f p ≡ refused r) ↔ (f ≡ Refused r)
+pub judged-refused : (f : Found) (p : Printed) (r : Refusal) → (judged f p ≡ refused r) ↔ (f ≡ Refused r)
 unfolding judged
 judged-refused Met p r = (λ e. let z : _≡_ {A = ℕ} 0 1 = cc in absurd (omega arith), λ e. let z : _≡_ {A = ℕ} 0 1 = cc in absurd (omega arith))
 judged-refused (Refused r₀) p r = (λ e. cc, λ e. cc)
 
-judged-accepted : (f : Found) (p p′ : Printed) → (judged f p ≡ accepted p′) ↔ ((f ≡ Met) × (p′ ≡ p))
+pub judged-accepted : (f : Found) (p p′ : Printed) → (judged f p ≡ accepted p′) ↔ ((f ≡ Met) × (p′ ≡ p))
 unfolding judged
 judged-accepted Met p p′ = (λ e. (refl, cc), λ h. cc (h .1))
 judged-accepted (Refused r) p p′ = (λ e. let z : _≡_ {A = ℕ} 0 1 = cc in absurd (omega arith), λ h. let e : Refused r ≡ Met = h .0 in let z : _≡_ {A = ℕ} 0 1 = cc in absurd (omega arith))

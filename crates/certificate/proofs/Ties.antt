@@ -1,16 +1,23 @@
 -- Each question's claims are what section's record of that question says.
 use Prim.Native.Nat.{ℕ, _+_}
-use mathlib.Core.Path.{refl}
+use mathlib.Core.Path.{_≡_, refl, ap, _∙_}
 use mathlib.Core.Logic.{_↔_}
 use mathlib.Core.List.{List, [], _∷_, _++_}
 use native.Mathlib.Omega.{arith}
+use lib.IntN.{ℤ}
+use lib.ListN.{length, drop, length-drop}
 use Rattle.section.specs.declared.Sheet.{Sheet}
 use Rattle.section.specs.Sheets.{Question2, Question3, Question4, Question5, Question6, Question7, Question8, Question9, Question10}
-use Rattle.section.specs.Figures.{Question11}
+use Rattle.section.specs.Figures.{figures, Question11}
+use Rattle.text.specs.Keys.{sheetLines, certificateLines}
 use Rattle.certificate.specs.declared.Span.{Span}
 use Rattle.certificate.specs.Questions.{Asked, ranges, values, ranged, question2, question3, question4, question5, question6, question7, question8, question9, question10, question11, onNumbers, questions}
 use Rattle.certificate.specs.Reasons.{All, facts-on-numbers, facts}
+use Rattle.certificate.specs.Certificates.{figureValues}
+use Rattle.certificate.specs.Outcome.{fitting, question12, agreeing, question13, writing, checking}
+use Rattle.certificate.specs.Promises.{Question12, Question13, facts-of-writing, facts-of-checking}
 use Rattle.certificate.proofs.FirstNos.{Numbered, Tied}
+use Rattle.certificate.proofs.Shown.{figure-count}
 
 ranged-numbered : (line : ℕ) (ss : List Span) (vs : List ℕ) → Numbered 2 (ranged line ss vs)
 unfolding ranged
@@ -99,6 +106,48 @@ module _ (q : Sheet) where
   unfolding onNumbers
   on-numbers-tied = tied-before [] [] tt
 
+  -- the questions up to the eleventh, and those behind
+  pub tied-then : (qs : List (List Asked)) (Ps : List (Type 0)) → Tied 12 qs Ps → Tied 2 (questions q ++ qs) (facts q ++ Ps)
+  unfolding questions onNumbers question11
+  tied-then qs Ps t = tied-before (question11 q ∷ qs) (Question11 1 q ∷ Ps) (tied11, (refl, tt), t)
+
   pub questions-tied : Tied 2 (questions q) (facts q)
   unfolding questions question11
   questions-tied = tied-before (question11 q ∷ []) (Question11 1 q ∷ []) (tied11, (refl, tt), tt)
+
+  pub tied12 : (room : ℕ) → All (question12 room q) ↔ Question12 room q
+  unfolding question12 fitting
+  tied12 room = (λ h. record { fits = h .0 }, λ h. (h .fits, tt))
+
+  pub writing-tied : (room : ℕ) → Tied 2 (writing room q) (facts-of-writing room q)
+  unfolding writing question12 fitting
+  writing-tied room = tied-then (question12 room q ∷ []) (Question12 room q ∷ []) (tied12 room, (refl, tt), tt)
+
+agreeing-numbered : (line : ℕ) (vs ws : List ℤ) → Numbered 13 (agreeing line vs ws)
+unfolding agreeing
+agreeing-numbered line [] ws = tt
+agreeing-numbered line (v ∷ vs) [] = tt
+agreeing-numbered line (v ∷ vs) (w ∷ ws) = (refl, agreeing-numbered (line + 1) vs ws)
+
+-- lines agree one by one exactly where they are the same
+agreeing-same : (line : ℕ) (vs ws : List ℤ) → length vs ≡ length ws → All (agreeing line vs ws) ↔ (vs ≡ ws)
+unfolding agreeing
+agreeing-same line [] [] n = (λ h. refl, λ h. tt)
+agreeing-same line [] (w ∷ ws) n = absurd (omega arith)
+agreeing-same line (v ∷ vs) [] n = absurd (omega arith)
+agreeing-same line (v ∷ vs) (w ∷ ws) n =
+    let r = agreeing-same (line + 1) vs ws (omega (arith, n)) in
+    (λ h. ap (λ (x : ℤ). x ∷ vs) (h .0) ∙ ap (λ (l : List ℤ). w ∷ l) (r .0 (h .1)), λ h. (cc, r .1 cc))
+
+module _ (vs : List ℤ) (q : Sheet) (n : length vs ≡ certificateLines) where
+  pub tied13 : All (question13 vs q) ↔ Question13 vs q
+  unfolding question13
+  tied13 =
+      let r = agreeing-same 13 (drop sheetLines vs) (figureValues (figures 1 q)) (omega (arith, n, length-drop sheetLines vs, figure-count (figures 1 q))) in
+      (λ h. record { agree = r .0 h }, λ h. r .1 (h .agree))
+
+  pub checking-tied : Tied 2 (checking vs q) (facts-of-checking vs q)
+  unfolding checking question13
+  checking-tied =
+      tied-then q ([] ∷ question13 vs q ∷ []) (Unit ∷ Question13 vs q ∷ [])
+      ((λ h. tt, λ h. tt), tt, (tied13, agreeing-numbered 13 (drop sheetLines vs) (figureValues (figures 1 q)), tt))

@@ -2,3 +2,7 @@ pub mod Refusals
 pub mod Claims
 pub mod Questions
 pub mod Reasons
+pub mod Certificates
+pub mod Outcome
+pub mod Promises
+pub mod MarkedCases

@@ -1,4 +1,6 @@
 // A sheet's numbers, the questions on them, and what they give. (Document 01.)
+pub mod certificates;
+pub mod exports;
 pub mod questions;
 pub mod refusals;
 

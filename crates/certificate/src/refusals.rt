@@ -4,7 +4,8 @@ use crate::Refusal;
 ghost use mathlib.Core.Path.{_≡_};
 ghost use Rattle.certificate.specs.Refusals.{answer, told};
 
-fn answer(refusal: u64, line: u64, length: u64) -> Answer
+// A number or 0, a line and a length.
+pub fn answer(refusal: u64, line: u64, length: u64) -> Answer
     ensures { λ a. ⌜ a ≡ answer refusal line length ⌝ }
 {
     Answer {

@@ -63,18 +63,18 @@ plus-within {x} {y} h k = omega (arith, plus-size x y)
 neg-within : {b : ℕ} {x : ℤ} → Within b x → Within b (negℤ x)
 neg-within {x} h = omega (arith, neg-size x)
 
-times-within : {a b : ℕ} {x y : ℤ} → Within a x → Within b y → Within (a * b) (x *ℤ y)
+pub times-within : {a b : ℕ} {x y : ℤ} → Within a x → Within b y → Within (a * b) (x *ℤ y)
 times-within {x} {y} h k = record { size = rw (times-size x y) (mul-le-mul (h .size) (k .size)) }
 
 down-le : {n d x : ℕ} → 0 < d → n ≤ x * d → n / d ≤ x
 down-le {n} d⁺ h = le-trans (floor-le-ceil n d⁺) (ceil-le d⁺ h)
 
-floor-within : {n c d : ℕ} {z : ℤ} → 0 < d → n ≤ c * d → Within n z → Within c (floorOver z d)
+pub floor-within : {n c d : ℕ} {z : ℤ} → 0 < d → n ≤ c * d → Within n z → Within c (floorOver z d)
 unfolding floorOver
 floor-within {z = pos a} d⁺ h w = record { size = down-le d⁺ (le-trans (w .size) h) }
 floor-within {d} {z = negsuc a} d⁺ h w = record { size = rw (neg-size (pos (ceilDiv (suc a) d))) (ceil-le d⁺ (le-trans (w .size) h)) }
 
-ceil-within : {n c d : ℕ} {z : ℤ} → 0 < d → n ≤ c * d → Within n z → Within c (ceilOver z d)
+pub ceil-within : {n c d : ℕ} {z : ℤ} → 0 < d → n ≤ c * d → Within n z → Within c (ceilOver z d)
 unfolding ceilOver
 ceil-within {z = pos a} d⁺ h w = record { size = ceil-le d⁺ (le-trans (w .size) h) }
 ceil-within {d} {z = negsuc a} d⁺ h w = record { size = rw (neg-size (pos (suc a / d))) (down-le d⁺ (le-trans (w .size) h)) }

@@ -21,5 +21,6 @@ pub mod SizesOfAxis
 pub mod SizesOfSheets
 pub mod SheetRooms
 pub mod Printing
+pub mod PrintedFigures
 pub mod NothingCut
 pub mod Theorems

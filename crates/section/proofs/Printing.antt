@@ -39,7 +39,7 @@ factor-word n gm0 f l h =
     (mul-pos {m = gm0} {n = S n} (omega arith) (omega (arith, f .some)), omega (arith, mul-le-mul {n₁ = gm0} {m₁ = S n} {n₂ = 1500} {m₂ = 10000000} h (scale-most f)))
 
 -- the area of a sheet's working is at most 6840 mm²
-area-most : {n : ℕ} {q : Sheet} → Fine n → Sound q → ((worked n q) .area .lo ≤ (worked n q) .area .hi) × ((worked n q) .area .hi ≤ 6840000000 * n)
+pub area-most : {n : ℕ} {q : Sheet} → Fine n → Sound q → ((worked n q) .area .lo ≤ (worked n q) .area .hi) × ((worked n q) .area .hi ≤ 6840000000 * n)
 unfolding worked
 area-most {n} {q} f s =
     let box = area-box f (section-numbers s .web .high) (q .t .0) (s .q2 .t .high) (sheet-effective-box s f) in

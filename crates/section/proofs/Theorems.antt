@@ -4,13 +4,14 @@ use native.Mathlib.Omega.{arith}
 use Rattle.section.specs.declared.Sheet.{Sheet}
 use Rattle.section.specs.Sheets.{Sound}
 use Rattle.section.specs.Working.{worked}
-use Rattle.section.specs.Figures.{figures, Question11, Held}
+use Rattle.section.specs.Figures.{figures, FiguresBelow, Question11, Held}
 use Rattle.section.specs.Nested.{WorkedInside}
 use Rattle.section.specs.Uncut.{Uncut}
 use Rattle.section.proofs.Ends.{own-fine}
 use Rattle.section.proofs.Whole.{SheetDivisors, sheet-divisors, worked-inside}
 use Rattle.section.proofs.Promise.{held}
 use Rattle.section.proofs.SizesOfSheets.{fine-divisors}
+use Rattle.section.proofs.PrintedFigures.{figures-below}
 use Rattle.section.proofs.NothingCut.{uncut}
 
 -- no divisor is zero, at any scale
@@ -29,3 +30,7 @@ finer-working-inside q n⁺ m⁺ s = worked-inside n⁺ m⁺ q (divisors-above-z
 pub finer-working-held : {n m : ℕ} (q : Sheet) → 0 < n → 0 < m → Sound q → Question11 n q → Held (m * n) (figures n q) (q .allow) (q .fyb) (q .gm0) (worked (m * n) q)
 finer-working-held q n⁺ m⁺ s a =
     held n⁺ m⁺ q (omega (arith, s .q2 .gm0 .low)) (divisors-above-zero q n⁺ s) a
+
+-- no printed figure has more than ten digits
+pub figures-have-ten-digits : (q : Sheet) → Sound q → FiguresBelow 10000000000 (figures 1 q)
+figures-have-ten-digits q s = figures-below own-fine s

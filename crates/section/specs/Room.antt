@@ -278,7 +278,9 @@ module _ (n : ℕ) where
     pub outer-room : OuterRoom hp x
     pub web : WebRoom hp (x .p) (x .m) (outer hp x)
     pub near : NearLipRoom (x .one .c) (x .chi1)
-    pub sum : signedPlusFits (outer hp x ⊞ far-web-moment n hp (x .m) ⊞ near-web-moment n (x .p)) (signed (near-lip-moment n (x .one .c) (x .chi1))) ≡ true
+    pub sum :
+        signedPlusFits (outer hp x ⊞ far-web-moment n hp (x .m) ⊞ near-web-moment n (x .p))
+        (signed (near-lip-moment n (x .one .c) (x .chi1))) ≡ true
 
   pub record AxisRoom (hp : Pair) (x : Kept) : Type 0 where
     pub fine : Fine n

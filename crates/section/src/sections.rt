@@ -79,7 +79,7 @@ fn effective_section(
 }
 
 // All full: be1 = be2 = bp / 2, he = hp / 2, c_eff = cp, and factors 1.
-fn full_section(n: u64, hp: Pair, cp: Pair, bp1: Pair, bp2: Pair) -> Kept
+pub fn full_section(n: u64, hp: Pair, cp: Pair, bp1: Pair, bp2: Pair) -> Kept
     requires { ⌜ FullRoom n hp cp bp1 bp2 ⌝ }
     ensures { λ r. ⌜ r ≡ full n hp cp bp1 bp2 ⌝ }
 {

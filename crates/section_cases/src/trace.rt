@@ -13,7 +13,6 @@ use section::Lines;
 use section::Nominal;
 use section::Round;
 use section::Sheet;
-use section::Stiffener;
 use section::moments;
 use section::rounds;
 use section::sections;
@@ -22,9 +21,9 @@ ghost use mathlib.Core.Bool.{true};
 ghost use Rattle.pair.specs.Pairs.{over, root};
 ghost use Rattle.pair.specs.Fits.{overFits};
 ghost use Rattle.section.specs.Sheets.{Sound};
-ghost use Rattle.section.specs.Working.{S, mm, whole, u², ρ-plane, half-kept, rounds, effective, full};
+ghost use Rattle.section.specs.Working.{S, mm, whole, u², ρ-plane, half-kept, rounds, effective};
 ghost use Rattle.section.specs.Forms.{LinesAre};
-ghost use Rattle.section.specs.Room.{Fine, LipRatio, StiffenerRoom, Steady, FullRoom, AxisRoom, SheetRoom, effective-of};
+ghost use Rattle.section.specs.Room.{Fine, LipRatio, StiffenerRoom, Steady, AxisRoom, SheetRoom, effective-of};
 
 // Sheet B, the profile of source document 002.
 pub fn sheet_b() -> Sheet
@@ -145,40 +144,6 @@ fn effective_of(n: u64, q: Sheet, l: Lines) -> Kept
     rounded(n, t, q.fyb, hp, cp, f1, f2, he)
 }
 
-// All full: be1 = be2 = bp / 2, he = hp / 2, c_eff = cp, and factors 1.
-fn full_section(n: u64, hp: Pair, cp: Pair, bp1: Pair, bp2: Pair) -> Kept
-    requires { ⌜ FullRoom n hp cp bp1 bp2 ⌝ }
-    ensures { λ r. ⌜ r ≡ full n hp cp bp1 bp2 ⌝ }
-{
-    let s = n * 1_000_000;
-    let he = hp.over_ratio(2, 1, s);
-    let b1 = bp1.over_ratio(2, 1, s);
-    let b2 = bp2.over_ratio(2, 1, s);
-    let a1 = b1.plus(cp);
-    let a2 = b2.plus(cp);
-    let chi = Pair::ratio(1, 1, s);
-    let one = Stiffener {
-        be2: b1,
-        c: cp,
-        a: a1,
-    };
-    let two = Stiffener {
-        be2: b2,
-        c: cp,
-        a: a2,
-    };
-    Kept {
-        first1: b1,
-        first2: b2,
-        p: he,
-        m: he,
-        one,
-        two,
-        chi1: chi,
-        chi2: chi,
-    }
-}
-
 // L and z of the effective section, with he and the area before z.
 fn effective_axis(n: u64, hp: Pair, e: Kept, area: Pair)
     requires { ⌜ AxisRoom n hp e ⌝ }
@@ -215,7 +180,7 @@ pub fn sheet(n: u64, q: Sheet)
     let bp1 = l.bp1;
     let bp2 = l.bp2;
     let w = sections::work(n, q);
-    let g = full_section(n, hp, cp, bp1, bp2);
+    let g = sections::full_section(n, hp, cp, bp1, bp2);
     let e = effective_of(n, q, l);
     effective_axis(n, hp, e, w.area);
     gross_axis(n, hp, g, w.shift);

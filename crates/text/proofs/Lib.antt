@@ -5,4 +5,3 @@ pub mod LineLaws
 pub mod ReadSteps
 pub mod ReadBack
 pub mod Theorems
-pub mod Texts

@@ -1,7 +1,7 @@
 -- What crates above may use: reading gives exactly the values whose text stands there, and otherwise the first bad line; a text says which
 -- values it has; how long a text can be, and that no byte behind that length decides.
 use Prim.Native.Nat.{ℕ, zero, suc, _+_, _-_, _^_, _≤_, _<_}
-use mathlib.Core.List.{List, [], _∷_, _++_, append-assoc, append-nil}
+use mathlib.Core.List.{List, [], _∷_, _++_, map, append-assoc, append-nil}
 use mathlib.Core.Logic.{inl, inr, ⊎-elim, _↔_}
 use mathlib.Core.Path.{_≡_, refl, sym, ap, _∙_, subst}
 use native.Mathlib.Nat.{add-zero, zero-add}
@@ -9,13 +9,12 @@ use native.Mathlib.Omega.{arith}
 use lib.IntN.{ℤ, pos, negsuc, natAbs}
 use lib.ListN.{length, getD, take, drop, length-append, take-append-drop}
 use lib.Seq.{take-append-add}
-use Rattle.pair.specs.SignedPairs.{integer}
-use Rattle.pair.specs.declared.signed.Integer.{Integer}
-use Rattle.pair.proofs.IntegerForms.{integer-size}
 use Rattle.text.specs.Keys.{Kind, letter, number, shift, sheetLines, certificateLines, firstShift, keys, keyOf, kindOf}
 use Rattle.text.specs.Decimal.{integerText}
 use Rattle.text.specs.Lines.{mostDigits, valueText, lineText, linesFrom, linesText, SpeltAs, Spelt, SpeltFrom, longestValue, longestLine, longestFrom, longest, TextOf, Begins, Unfit, FirstBad}
 use Rattle.text.specs.Reading.{Front, got, bad, readLine, Reading, values, badLine, prepend, readEnd, andThen, readFrom, readLines}
+use Rattle.text.specs.declared.reading.Verdict.the-variants.{Right, BadLine}
+use Rattle.text.specs.Forms.{reading}
 use Rattle.text.proofs.DecimalLaws.{decimal-length}
 use Rattle.text.proofs.LineLaws.{number-line, shift-line, line-size}
 use Rattle.text.proofs.ReadSteps.{behind, behind-bad, behind-values}
@@ -326,23 +325,42 @@ pub shift-spelt : (i : ℕ) (v : ℤ) → firstShift ≤ i → natAbs v < 10 ^ m
 unfolding Spelt
 shift-spelt i v h g = rw (shift-line i (λ e. absurd (omega arith)) h) g
 
--- an integer of the code that stands in the form's line or in a number's is its size
-module _ (z : Integer) where
-  above-size : (n : ℕ) → integer z ≡ pos n → n ≡ z .size
-  above-size n e = sym (ap natAbs e) ∙ integer-size z
+-- a value that stands in the form's line or in a number's is not below zero
 
-  as-letter : (v : ℤ) → SpeltAs letter v → integer z ≡ v → (integer z ≡ pos (z .size)) × (z .size < 2)
-  as-letter (pos n) h e = let s = above-size n e in (e ∙ ap pos s, subst (λ (k : ℕ). k < 2) s h)
-  as-letter (negsuc n) h e = absurd h
+as-letter : (v : ℤ) → SpeltAs letter v → v ≡ pos (natAbs v)
+as-letter (pos n) h = refl
+as-letter (negsuc n) h = absurd h
 
-  as-number : (v : ℤ) → SpeltAs number v → integer z ≡ v → (integer z ≡ pos (z .size)) × (z .size < 10 ^ mostDigits)
-  as-number (pos n) h e = let s = above-size n e in (e ∙ ap pos s, subst (λ (k : ℕ). k < 10 ^ mostDigits) s h)
-  as-number (negsuc n) h e = absurd h
+as-number : (v : ℤ) → SpeltAs number v → v ≡ pos (natAbs v)
+as-number (pos n) h = refl
+as-number (negsuc n) h = absurd h
 
-  pub form-is-size : Spelt 0 (integer z) → (integer z ≡ pos (z .size)) × (z .size < 2)
-  unfolding Spelt kindOf
-  form-is-size h = as-letter (integer z) h refl
+number-above : (i : ℕ) (v : ℤ) → i < firstShift → Spelt i v → v ≡ pos (natAbs v)
+unfolding Spelt kindOf
+number-above zero v h g = as-letter v g
+number-above (suc i) v h g = as-number v (subst (λ (k : Kind). SpeltAs k v) (number-line (suc i) (λ e. absurd (omega arith)) h) g)
 
-  pub number-is-size : (i : ℕ) → 0 < i → i < firstShift → Spelt i (integer z) → (integer z ≡ pos (z .size)) × (z .size < 10 ^ mostDigits)
-  unfolding Spelt
-  number-is-size i p h g = as-number (integer z) (subst (λ (k : Kind). SpeltAs k (integer z)) (number-line i (λ e. absurd (omega arith)) h) g) refl
+pub numbers-above : (i : ℕ) (vs : List ℤ) → i + length vs ≤ firstShift → SpeltFrom i vs → map (λ v. pos (natAbs v)) vs ≡ vs
+unfolding SpeltFrom
+numbers-above i [] h g = refl
+numbers-above i (v ∷ vs) h g =
+    ap (λ (w : ℤ). w ∷ map (λ v. pos (natAbs v)) vs) (sym (number-above i v (omega arith) (g .0)))
+    ∙ ap (λ (ws : List ℤ). v ∷ ws) (numbers-above (suc i) vs (omega arith) (g .1))
+
+-- values in their lines, one before others
+pub spelt-none : (i : ℕ) → SpeltFrom i []
+unfolding SpeltFrom
+spelt-none i = tt
+
+pub spelt-more : (i : ℕ) (v : ℤ) (vs : List ℤ) → Spelt i v → SpeltFrom (suc i) vs → SpeltFrom i (v ∷ vs)
+unfolding SpeltFrom
+spelt-more i v vs g h = (g, h)
+
+-- what the reader's answer stands for
+pub reading-right : (vs : List ℤ) → reading Right vs ≡ values vs
+unfolding reading
+reading-right vs = refl
+
+pub reading-bad : (l : ℕ) (vs : List ℤ) → reading (BadLine l) vs ≡ badLine l
+unfolding reading
+reading-bad l vs = refl

@@ -10,3 +10,10 @@ pub mod writing;
 pub const SHEET_LINES: usize = 12;
 
 pub const CERTIFICATE_LINES: usize = 18;
+
+// How long the text of a sheet and of a certificate can be (`longest-sheet` and
+// `longest-certificate` in proofs/Theorems). Bytes more than one behind that do not change what
+// reading gives (`cut-behind`).
+pub const LONGEST_SHEET: usize = 168;
+
+pub const LONGEST_CERTIFICATE: usize = 273;

@@ -62,8 +62,9 @@ pub fn write_line(out: &mut [u8], i: usize, v: Integer) -> usize
     let n = KEY_LENGTHS[i];
     let k = bytes::copy(&key[..n], out);
     let end = k + put_value(&mut out[k..], i, v);
+    let next = end + 1;
     out[end] = NEWLINE;
-    end + 1
+    next
 }
 
 // The length of the lines from line i up to, not including, line j, with their values among `values`.

@@ -6,6 +6,7 @@ use crate::pair::{Pair, Scale};
 use crate::rules::{straddles_jump, thousandths};
 use crate::sheet::{ask_allowance, ask_before_working, Figures, Sheet, RANGES};
 use crate::working::{Stiffener, Working};
+use std::sync::OnceLock;
 
 /// A small xorshift.
 pub struct Chance(u64);
@@ -24,16 +25,16 @@ impl Chance {
     }
 
     /// A whole number between the two, both included.
-    fn between(&mut self, least: u64, greatest: u64) -> u64 {
+    pub fn between(&mut self, least: u64, greatest: u64) -> u64 {
         assert!(least <= greatest);
         least + self.next() % (greatest - least + 1)
     }
 
-    fn one_of(&mut self, choices: &[u64]) -> u64 {
+    pub fn one_of(&mut self, choices: &[u64]) -> u64 {
         choices[self.between(0, choices.len() as u64 - 1) as usize]
     }
 
-    fn one_in(&mut self, n: u64) -> bool {
+    pub fn one_in(&mut self, n: u64) -> bool {
         self.between(1, n) == 1
     }
 }
@@ -252,6 +253,21 @@ fn corner_section(chance: &mut Chance) -> Option<Sheet> {
 fn edge_section(chance: &mut Chance) -> Option<Sheet> {
     let (tnom, t) = any_thicknesses(chance, OFTEN);
     try_section(chance, tnom, t, OFTEN)
+}
+
+/// A random section, one in three with about half of its values at the ends that
+/// ranges and questions leave, and one in three with all of them there.
+pub fn any_section(chance: &mut Chance) -> Sheet {
+    let search = match chance.between(0, 2) {
+        0 => random_section,
+        1 => edge_section,
+        _ => corner_section,
+    };
+    loop {
+        if let Some(sheet) = search(chance) {
+            return sheet;
+        }
+    }
 }
 
 /// tnom at least three times t.
@@ -505,7 +521,7 @@ fn jump_earlier(chance: &mut Chance) -> Option<Sheet> {
 }
 
 /// The least allow that question 11 lets pass.
-fn needed_allowance(sheet: &Sheet) -> u64 {
+pub fn needed_allowance(sheet: &Sheet) -> u64 {
     let working = worked(sheet);
     let area = Figures::of(sheet, &working).area;
     let upper = crate::pair::divide_up(working.area.hi * 100, working.scale.units());
@@ -569,8 +585,13 @@ fn deep_lips_of_c(chance: &mut Chance) -> Option<Sheet> {
 
 pub const SEED: u64 = 0x9E37_79B9_7F4A_7C15;
 
-/// Sheet B first, sheet A, the longest lip, then all searches.
+/// Sheet B first, sheet A, the longest lip, then all searches; searched once.
 pub fn sections() -> Vec<Sheet> {
+    static FOUND: OnceLock<Vec<Sheet>> = OnceLock::new();
+    FOUND.get_or_init(search_all).clone()
+}
+
+fn search_all() -> Vec<Sheet> {
     let mut chance = Chance::seeded(SEED);
     let mut found = vec![SHEET_B, SHEET_A, LONGEST_LIP];
     for (search, wanted) in SEARCHES {

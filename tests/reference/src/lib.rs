@@ -2,6 +2,7 @@
 //!
 //! Slow and plain on purpose: wide integers, every intermediate pair kept.
 
+pub mod cases;
 pub mod edges;
 pub mod finer;
 pub mod generate;

@@ -11,6 +11,10 @@ pub const SHEET_KEYS: [&str; 12] = [
 /// Keys of a certificate's further lines, in order.
 pub const FIGURE_KEYS: [&str; 6] = ["area", "axial", "chi1", "chi2", "shiftlo", "shifthi"];
 
+/// No text of a certificate is longer: each number has at most ten digits, and
+/// a shift a minus.
+pub const LONGEST_CERTIFICATE: usize = 273;
+
 /// What a call returns: 0 or the refusal's number, a line and a length.
 #[derive(Clone, Copy, Debug, PartialEq, Eq)]
 pub struct Answer {
@@ -225,6 +229,18 @@ pub fn check(certificate: &[u8]) -> Answer {
 pub fn printed(sheet: &[u8]) -> String {
     match read_sheet(sheet).and_then(ask_numbers) {
         Ok(accepted) => certificate_text(&accepted),
-        Err(refusal) => format!("refused={}\nline={}\n", refusal.number, refusal.line),
+        Err(refusal) => refusal_lines(refusal),
     }
+}
+
+/// What the program prints for a certificate on standard input.
+pub fn printed_check(certificate: &[u8]) -> String {
+    match ask_certificate(certificate) {
+        Ok(()) => format!("passed={}\n", certificate.len()),
+        Err(refusal) => refusal_lines(refusal),
+    }
+}
+
+fn refusal_lines(refusal: Refusal) -> String {
+    format!("refused={}\nline={}\n", refusal.number, refusal.line)
 }

@@ -1,7 +1,7 @@
 -- `certificate::questions::allowance` meets its contract.
-use mathlib.Core.Path.{ap}
-use Rattle.section.specs.Forms.{printedOf}
+use mathlib.Core.Path.{ap, sym, _∙_}
 use Rattle.section.specs.Figures.{Printed}
+use Rattle.section.proofs.PrintedFigures.{area-of-form}
 use Rattle.certificate.specs.Questions.{judgedOf}
 use Rattle.certificate.proofs.Steps.{within, beyond}
 use borrow.Author.Needs.{needs}
@@ -15,8 +15,9 @@ figures-of-requires : tie.Need-figures-of-requires
 figures-of-requires c κs = search needs
 
 within-allowance-requires : tie.Need-within-allowance-requires
-unfolding printedOf
-within-allowance-requires c κs = (search needs, search needs, search needs, ap (λ (p : Printed). p .area) (c .figures-of .ensures))
+within-allowance-requires c κs =
+    let area = sym (area-of-form (c .figures-of .result)) ∙ ap (λ (p : Printed). p .area) (c .figures-of .ensures) in
+    (search needs, search needs, search needs, area)
 
 returns : tie.Need-returns
 returns c = within _ (c .before .before .figures-of .result) (c .before .within-allowance .ensures) (c .if1 .taken) (c .before .before .figures-of .ensures)

@@ -120,11 +120,11 @@ module _ (c : tie.After-slice-known3) where
 add-end : tie.Need-add-end
 add-end c = omega (arith, end-is c, room (s c))
 
+add-next : tie.Need-add-next
+add-next c = omega (arith, end-is c, room (s c))
+
 slice-write-out : tie.Need-slice-write-out
 slice-write-out c = omega (arith, end-is c, room (s c), whole-length c)
-
-add-result : tie.Need-add-result
-add-result c = omega (arith, end-is c, room (s c))
 
 same-length : tie.Need-same-length
 same-length c = simp length-set (whole-length c)
@@ -151,7 +151,7 @@ write-line-spec =
     part-put-value-end
     put-value-requires
     add-end
+    add-next
     slice-write-out
-    add-result
     same-length
     returns)

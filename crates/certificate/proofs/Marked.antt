@@ -1,0 +1,50 @@
+-- The thirteen marked cases of document 01 hold: each is computed. So this file opens the formulas of pair and of section, which no other
+-- proof of this crate does.
+use mathlib.Core.Path.{_≡_, refl}
+use mathlib.Core.List.{map}
+use mathlib.Core.Bool.{true}
+use lib.IntN.{ℤ}
+use Rattle.pair.specs.Rounding.{ceilDiv, rootUp}
+use Rattle.pair.specs.Pairs.{exact, ratio, plus, minus, times, over, root, cubeRoot}
+use Rattle.pair.specs.Integers.{_≤ℤ_, lebℤ, least, greatest, floorOver, ceilOver}
+use Rattle.pair.specs.SignedPairs.{signed, difference, signedPlus, signedMinus, leastProduct, greatestProduct, signedTimes, signedOver}
+use Rattle.pair.proofs.IntegerLaws.{lebℤ-true}
+use Rattle.section.specs.Working.{mid-line, lip-line, u², ρ-down, ρ-up, ρ, ρ-plane, ρ-lip, k-past, k-at, k}
+use Rattle.section.specs.Working.{half-kept, flange-of, stiffener-of, g, J, T, kf, D, ud}
+use Rattle.section.specs.Working.{χ-before-down, χ-before-up, χ-from-down, χ, χ-of, round, rounds}
+use Rattle.section.specs.Working.{L, lip-moment, flange-moment, far-web-moment, near-web-moment, near-lip-moment, moment, z, full, effective, worked}
+use Rattle.section.specs.Figures.{printed, figures}
+use Rattle.text.specs.Keys.{keys, keyOf, kindOf}
+use Rattle.text.specs.Decimal.{decimal, integerText}
+use Rattle.text.specs.Lines.{letterOf, valueText, lineText, linesFrom, longestLine, longestFrom}
+use Rattle.text.specs.Reading.{ended, readDigits, readNumber, readShift, readLetter, readValue, begins, readLine, prepend, readEnd, andThen, readFrom}
+use Rattle.certificate.specs.Questions.{ranges, values, ranged, question2, question3, question4, question5, question6, question7, question8, question9}
+use Rattle.certificate.specs.Questions.{question10, question11, onNumbers, questions, firstOf, firstIn}
+use Rattle.certificate.specs.Reasons.{Each}
+use Rattle.certificate.specs.Certificates.{sheetValues, figureValues, certificateValues, certificateOf, sheetShown, figuresShown}
+use Rattle.certificate.specs.Outcome.{fitting, question12, writing, settled, outcomeOf, outcomeRead, outcome, answerOf}
+use Rattle.certificate.specs.MarkedCases.{Says, sheetA, sheetB, sheet11, sheet12, sheet13, figuresRead, figuresIn, figuresB, marked}
+
+between : {least x most : ℤ} → lebℤ least x ≡ true → lebℤ x most ≡ true → (least ≤ℤ x) × (x ≤ℤ most)
+between low high = (lebℤ-true _ _ low, lebℤ-true _ _ high)
+
+-- every marked case holds
+pub marked-cases : Each (map Says marked)
+unfolding
+    -- of pair
+    ceilDiv rootUp exact ratio plus minus times over root cubeRoot
+    lebℤ least greatest floorOver ceilOver signed difference signedPlus signedMinus leastProduct greatestProduct signedTimes signedOver
+    -- of section
+    mid-line lip-line u² ρ-down ρ-up ρ ρ-plane ρ-lip k-past k-at k half-kept flange-of stiffener-of g J T kf D ud
+    χ-before-down χ-before-up χ-from-down χ χ-of round rounds
+    L lip-moment flange-moment far-web-moment near-web-moment near-lip-moment moment z full effective worked printed figures
+    -- of text
+    keys keyOf kindOf decimal integerText letterOf valueText lineText linesFrom longestLine longestFrom
+    ended readDigits readNumber readShift readLetter readValue begins readLine prepend readEnd andThen readFrom
+    -- of this crate
+    ranges values ranged question2 question3 question4 question5 question6 question7 question8 question9 question10 question11
+    onNumbers questions firstOf firstIn sheetValues figureValues certificateValues certificateOf sheetShown figuresShown
+    fitting question12 writing settled outcomeOf outcomeRead outcome answerOf
+    sheetA sheetB sheet11 sheet12 sheet13 figuresRead figuresIn figuresB marked
+marked-cases =
+    (refl, (refl, (refl, (refl, (refl, ((refl, refl), (refl, (refl, (refl, ((refl, (refl, (between refl refl, (between refl refl, between refl refl)))), (refl, (refl, (refl, tt)))))))))))))

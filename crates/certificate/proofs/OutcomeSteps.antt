@@ -1,0 +1,163 @@
+-- The steps of the code that writes and checks, each with what it gives.
+use Prim.Native.Nat.{ℕ, _+_, _≤_, _<_}
+use mathlib.Core.List.{List, [], _∷_, _++_}
+use mathlib.Core.Path.{_≡_, sym, ap, _∙_}
+use mathlib.Core.Bool.{true, false}
+use native.Mathlib.Omega.{arith}
+use native.Mathlib.Numerals.{add-one}
+use borrow.Author.Tests.{le-leb, lt-leb}
+use lib.IntN.{ℤ, pos}
+use lib.ListN.{length, getD, take, drop, drop-of-length-le}
+use lib.Seq.{take-all, drop-cons}
+use Rattle.pair.specs.declared.signed.Integer.{Integer}
+use Rattle.section.specs.declared.Sheet.{Sheet}
+use Rattle.section.specs.declared.Figures.{Figures}
+use Rattle.section.specs.Figures.{Printed, figures}
+use Rattle.section.specs.Forms.{printedOf}
+use Rattle.text.specs.Keys.{sheetLines, certificateLines}
+use Rattle.text.specs.Lines.{over, linesText}
+use Rattle.text.specs.Reading.{Reading, values, badLine, readLines}
+use Rattle.text.specs.Forms.{integers, reading}
+use Rattle.text.specs.declared.reading.Verdict.{Verdict as Lines}
+use Rattle.text.specs.declared.reading.Verdict.the-variants.{Right, BadLine}
+use Rattle.text.proofs.Theorems.{reading-right, reading-bad}
+use Rattle.certificate.specs.declared.Answer.{Answer}
+use Rattle.certificate.specs.declared.Refusal.{Refusal}
+use Rattle.certificate.specs.declared.Refusal.the-variants.{Spelling, Room, Figure}
+use Rattle.certificate.specs.declared.Found.{Found}
+use Rattle.certificate.specs.declared.Found.the-variants.{Refused, Met}
+use Rattle.certificate.specs.declared.Verdict.{Verdict}
+use Rattle.certificate.specs.declared.Verdict.the-variants.{Refused as Turned, Accepted}
+use Rattle.certificate.specs.Claims.{_is_, test}
+use Rattle.certificate.specs.Refusals.{answer, told}
+use Rattle.certificate.specs.Questions.{_else_, questions, firstOf, firstIn, Judged, accepted, verdict, judgedOf}
+use Rattle.certificate.specs.Questions.{refused as turned}
+use Rattle.certificate.specs.Certificates.{sheetValues, figureValues, certificateValues, certificateOf, sheetShown}
+use Rattle.certificate.specs.Outcome.{fitting, question12, agreeing, question13, writing, checking, Outcome, refused, written, settled, fitted, outcomeOf, outcomeRead, outcome, answerOf, bufferAfter, checkedRead, checked, checkAnswer}
+use Rattle.certificate.proofs.Steps.{in-turn, then-nothing}
+use Rattle.certificate.proofs.Theorems.{judged-refused, judged-accepted}
+
+-- what the reader found
+module _ (v : Lines) (vs : List ℤ) (x : Reading) where
+  pub read-bad : (l : ℕ) → reading v vs ≡ x → v ≡ BadLine l → x ≡ badLine l
+  read-bad l e g = sym e ∙ ap (λ (w : Lines). reading w vs) g ∙ reading-bad l vs
+
+  pub read-right : reading v vs ≡ x → v ≡ Right → x ≡ values vs
+  read-right e g = sym e ∙ ap (λ (w : Lines). reading w vs) g ∙ reading-right vs
+
+-- the first question, of a sheet and of a certificate
+module _ (s : List ℕ) (room : ℕ) where
+  pub bad-sheet : (l : ℕ) → readLines sheetLines s ≡ badLine l → outcome s room ≡ refused (Spelling l)
+  unfolding outcome outcomeRead
+  bad-sheet l e = ap (λ (x : Reading). outcomeRead x room) e
+
+  pub right-sheet : (vs : List ℤ) → readLines sheetLines s ≡ values vs → outcome s room ≡ outcomeOf (sheetShown vs) room
+  unfolding outcome outcomeRead
+  right-sheet vs e = ap (λ (x : Reading). outcomeRead x room) e
+
+module _ (c : List ℕ) where
+  pub bad-certificate : (l : ℕ) → readLines certificateLines c ≡ badLine l → checked c ≡ Refused (Spelling l)
+  unfolding checked checkedRead
+  bad-certificate l e = ap checkedRead e
+
+  pub right-certificate : (vs : List ℤ) → readLines certificateLines c ≡ values vs → checked c ≡ firstIn (checking vs (sheetShown vs))
+  unfolding checked checkedRead
+  right-certificate vs e = ap checkedRead e
+
+pub found-in-lines : (c : List ℕ) (v : Lines) (vs : List ℤ) (f : Found) → reading v vs ≡ readLines certificateLines c → v ≡ Right → f ≡ checkedRead (values vs) → checked c ≡ f
+unfolding checked
+found-in-lines c v vs f e g h = ap checkedRead (read-right v vs _ e g) ∙ sym h
+
+-- an array of the code has as many values as a certificate has lines
+pub found-in-array : (vs : List Integer) → length vs ≡ certificateLines
+    → checkedRead (values (integers (take certificateLines vs))) ≡ firstIn (checking (integers vs) (sheetShown (integers vs)))
+unfolding checkedRead
+found-in-array vs n = ap (λ (l : List Integer). checkedRead (values (integers l))) (take-all certificateLines vs (omega (arith, n)))
+
+-- what the code's verdict stands for
+pub judged-refusal : {v : Verdict} {j : Judged} {r : Refusal} → judgedOf v ≡ j → v ≡ Turned r → j ≡ turned r
+unfolding judgedOf
+judged-refusal e g = sym e ∙ ap judgedOf g
+
+pub judged-figures : {v : Verdict} {j : Judged} {f : Figures} → judgedOf v ≡ j → v ≡ Accepted f → j ≡ accepted (printedOf f)
+unfolding judgedOf
+judged-figures e g = sym e ∙ ap judgedOf g
+
+-- the questions up to the eleventh, then the one behind
+module _ (q : Sheet) where
+  questions-met : {p : Printed} → verdict q ≡ accepted p → (firstIn (questions q) ≡ Met) × (p ≡ figures 1 q)
+  unfolding verdict
+  questions-met {p} e = judged-accepted (firstIn (questions q)) (figures 1 q) p .0 e
+
+  questions-refused : {r : Refusal} → verdict q ≡ turned r → firstIn (questions q) ≡ Refused r
+  unfolding verdict
+  questions-refused {r} e = judged-refused (firstIn (questions q)) (figures 1 q) r .0 e
+
+  pub refused-by-verdict : {r : Refusal} (room : ℕ) → verdict q ≡ turned r → outcomeOf q room ≡ refused r
+  unfolding outcomeOf writing settled
+  refused-by-verdict room e = rw (in-turn (questions q) (question12 room q ∷ []), questions-refused e)
+
+  pub room-asked : {p : Printed} (room : ℕ) → verdict q ≡ accepted p → outcomeOf q room ≡ fitted room (linesText (sheetValues q ++ figureValues p))
+  unfolding outcomeOf writing firstIn question12 fitted certificateOf certificateValues
+  room-asked {p} room e =
+      let h = questions-met e in
+      rw (in-turn (questions q) (question12 room q ∷ []), h .0, then-nothing (firstOf (fitting room (certificateOf q))), h .1)
+
+  pub refused-checking : {r : Refusal} (vs : List ℤ) → verdict q ≡ turned r → firstIn (checking vs q) ≡ Refused r
+  unfolding checking
+  refused-checking vs e = rw (in-turn (questions q) ([] ∷ question13 vs q ∷ []), questions-refused e)
+
+  pub figures-asked : {p : Printed} (vs : List ℤ) → verdict q ≡ accepted p
+      → firstIn (checking vs q) ≡ firstOf (agreeing 13 (drop sheetLines vs) (figureValues p))
+  unfolding checking firstIn firstOf question13
+  figures-asked {p} vs e =
+      let h = questions-met e in
+      rw (in-turn (questions q) ([] ∷ question13 vs q ∷ []), h .0, then-nothing (firstOf (question13 vs q)), h .1)
+
+-- the twelfth question
+module _ (room : ℕ) (t : List ℕ) where
+  pub fits : length t ≤ room → fitted room t ≡ written t
+  unfolding fitted fitting firstOf settled
+  fits h = rw (le-leb (length t) room h)
+
+  pub too-long : room < length t → fitted room t ≡ refused (Room (length t))
+  unfolding fitted fitting firstOf settled
+  too-long h = rw (lt-leb (length t) room h)
+
+-- what is answered, and left in the buffer
+module _ (o : Outcome) (a : Answer) (b : List ℕ) where
+  pub answers-refusal : (r : Refusal) → o ≡ refused r → a ≡ told r → (a ≡ answerOf o) × (b ≡ bufferAfter o b)
+  unfolding answerOf bufferAfter
+  answers-refusal r e h = (h ∙ sym (ap answerOf e), sym (ap (λ (x : Outcome). bufferAfter x b) e))
+
+  pub answers-text : (t d : List ℕ) (n : ℕ) → o ≡ written t → n ≡ length t → a ≡ answer 0 0 n → d ≡ over t b → (a ≡ answerOf o) × (d ≡ bufferAfter o b)
+  unfolding answerOf bufferAfter
+  answers-text t d n e k h w = (h ∙ ap (answer 0 0) k ∙ sym (ap answerOf e), w ∙ sym (ap (λ (x : Outcome). bufferAfter x b) e))
+
+module _ (c : List ℕ) (f : Found) (a : Answer) where
+  pub answers-unlike : (r : Refusal) → f ≡ Refused r → a ≡ told r → a ≡ checkAnswer c f
+  unfolding checkAnswer
+  answers-unlike r e h = h ∙ sym (ap (checkAnswer c) e)
+
+  pub answers-passed : f ≡ Met → a ≡ answer 0 0 (length c) → a ≡ checkAnswer c f
+  unfolding checkAnswer
+  answers-passed e h = h ∙ sym (ap (checkAnswer c) e)
+
+-- the thirteenth question, line by line
+module _ (line : ℕ) (vs ws : List ℤ) (i : ℕ) (a : i < length vs) (b : i < length ws) where
+  here : agreeing line (drop i vs) (drop i ws) ≡ (getD vs i (pos 0) is getD ws i (pos 0) else Figure line) ∷ agreeing (line + 1) (drop (i + 1) vs) (drop (i + 1) ws)
+  unfolding agreeing
+  here = rw (add-one i, drop-cons vs i (pos 0) a, drop-cons ws i (pos 0) b)
+
+  pub line-differs : test (getD vs i (pos 0) is getD ws i (pos 0)) ≡ false → firstOf (agreeing line (drop i vs) (drop i ws)) ≡ Refused (Figure line)
+  unfolding firstOf
+  line-differs e = ap firstOf here ∙ rw e
+
+  pub line-agrees : test (getD vs i (pos 0) is getD ws i (pos 0)) ≡ true
+      → firstOf (agreeing line (drop i vs) (drop i ws)) ≡ firstOf (agreeing (line + 1) (drop (i + 1) vs) (drop (i + 1) ws))
+  unfolding firstOf
+  line-agrees e = ap firstOf here ∙ rw e
+
+pub lines-agree : (line : ℕ) (vs ws : List ℤ) (i : ℕ) → length vs ≤ i → firstOf (agreeing line (drop i vs) (drop i ws)) ≡ Met
+unfolding agreeing firstOf
+lines-agree line vs ws i h = ap (λ (l : List ℤ). firstOf (agreeing line l (drop i ws))) (drop-of-length-le vs {i = i} h)

@@ -1,0 +1,133 @@
+-- `certificate::certificates::first_unlike` meets its contract.
+use Prim.Native.Nat.{ℕ, _+_, _-_, _≤_, _<_}
+use mathlib.Core.List.{List}
+use mathlib.Core.Bool.{false}
+use mathlib.Core.Path.{_≡_, refl, sym, _∙_}
+use lib.IntN.{ℤ}
+use lib.ListN.{length, drop, length-map}
+use borrow.Author.Tests.{not-true, not-false}
+use borrow.Author.Needs.{needs}
+use native.Mathlib.Omega.{arith}
+use Rattle.pair.specs.SignedPairs.{integer}
+use Rattle.pair.specs.declared.signed.Integer.{Integer}
+use Rattle.text.specs.Keys.{sheetLines, certificateLines}
+use Rattle.text.specs.Forms.{integers}
+use Rattle.certificate.specs.Claims.{_is_, test}
+use Rattle.certificate.specs.Questions.{firstOf}
+use Rattle.certificate.specs.Certificates.{valueAt}
+use Rattle.certificate.specs.Outcome.{agreeing}
+use Rattle.certificate.proofs.Shown.{integer-at}
+use Rattle.certificate.proofs.OutcomeSteps.{line-differs, line-agrees, lines-agree}
+use Rattle.certificate.proofs.certificates.first_unlike.Statement.{statement}
+use Rattle.certificate.proofs.certificates.first_unlike.Tie as tie
+
+abbrev Inv-loop : tie.InvT-loop
+Inv-loop shown worked i₀ i =
+    (sheetLines ≤ i) × (i ≤ certificateLines)
+    × (firstOf (agreeing 13 (drop sheetLines (integers shown)) (drop sheetLines (integers worked))) ≡ firstOf (agreeing (i + 1) (drop i (integers shown)) (drop i (integers worked))))
+
+abbrev μ-loop : tie.MeasureT-loop
+μ-loop shown worked i₀ i = certificateLines - i
+
+-- an integer by default, which no index within the arrays reads
+abbrev none : Integer
+none = record { below = false; size = 0 }
+
+counts : (c : tie.Start Inv-loop μ-loop) → (length (c .args .t1) ≡ certificateLines) × (length (c .args .t2) ≡ certificateLines)
+counts c = search needs
+
+loop-holds : tie.Need-loop-holds Inv-loop μ-loop
+loop-holds c = (omega arith, omega arith, refl)
+
+mul-x : tie.Need-mul-x Inv-loop μ-loop
+mul-x c = search needs
+
+array-copy-out-x : tie.Need-array-copy-out-x Inv-loop μ-loop
+array-copy-out-x c = search needs
+
+mul-y : tie.Need-mul-y Inv-loop μ-loop
+mul-y c = search needs
+
+array-copy-out-y : tie.Need-array-copy-out-y Inv-loop μ-loop
+array-copy-out-y c = search needs
+
+same-requires : tie.Need-same-requires Inv-loop μ-loop
+same-requires c κs = search needs
+
+add-line : tie.Need-add-line Inv-loop μ-loop
+add-line c = search needs
+
+-- A line in the loop, and whether it is the same in both.
+module _ (c : tie.After-same Inv-loop μ-loop) where
+  abbrev turn : tie.In-loop Inv-loop μ-loop
+  turn = c .before .before .before
+
+  abbrev start : tie.Start Inv-loop μ-loop
+  start = turn .before .before
+
+  abbrev i : ℕ
+  i = turn .before .loop .i
+
+  abbrev vs : List ℤ
+  vs = integers (start .args .t1)
+
+  abbrev ws : List ℤ
+  ws = integers (start .args .t2)
+
+  below : i < certificateLines
+  below = turn .loop-test .taken
+
+  in-shown : i < length vs
+  in-shown = omega (arith, below, counts start, length-map (start .args .t1) integer)
+
+  in-worked : i < length ws
+  in-worked = omega (arith, below, counts start, length-map (start .args .t2) integer)
+
+  asked : c .same .result ≡ test (valueAt vs i is valueAt ws i)
+  asked =
+      rw (integer-at (start .args .t1) i none (omega (arith, below, counts start)), integer-at (start .args .t2) i none (omega (arith, below, counts start)))
+      (c .same .ensures)
+
+returns : tie.Need-returns Inv-loop μ-loop
+returns c =
+    let t = c .before in
+    sym (turn t .before .loop .inv .2 ∙ line-differs (i t + 1) (vs t) (ws t) (i t) (in-shown t) (in-worked t) (sym (asked t) ∙ not-true _ (c .if1 .taken)))
+
+add-i : tie.Need-add-i Inv-loop μ-loop
+add-i c = search needs
+
+loop-less : tie.Need-loop-less Inv-loop μ-loop
+loop-less c = search needs
+
+loop-again : tie.Need-loop-again Inv-loop μ-loop
+loop-again c =
+    let t = c .before in (
+      omega (arith, turn t .before .loop .inv .0),
+      omega (arith, below t),
+      turn t .before .loop .inv .2 ∙ line-agrees (i t + 1) (vs t) (ws t) (i t) (in-shown t) (in-worked t) (sym (asked t) ∙ not-false _ (c .if1 .left)),
+    )
+
+returns-2 : tie.Need-returns-2 Inv-loop μ-loop
+returns-2 c =
+    let head = c .before in
+    let a = head .before .args in
+    sym (head .loop .inv .2 ∙ lines-agree (head .loop .i + 1) (integers (a .t1)) (integers (a .t2)) (head .loop .i) (omega (arith, counts (head .before), length-map (a .t1) integer, c .loop-test .left)))
+
+pub first-unlike-spec : {M : Type 1} → statement M
+first-unlike-spec =
+    tie.close
+    (tie.spec
+    Inv-loop
+    μ-loop
+    loop-holds
+    mul-x
+    array-copy-out-x
+    mul-y
+    array-copy-out-y
+    same-requires
+    add-line
+    returns
+    add-i
+    loop-less
+    loop-again
+    returns-2)

@@ -1,0 +1,62 @@
+-- `certificate::certificates::write_sheet` meets its contract.
+use borrow.Author.Needs.{needs}
+use mathlib.Core.Path.{sym, ap, _∙_}
+use mathlib.Core.List.{List}
+use lib.IntN.{ℤ}
+use lib.ListN.{length}
+use Rattle.text.specs.Lines.{linesText}
+use Rattle.certificate.specs.Outcome.{Outcome, fitted, answerOf, bufferAfter}
+use Rattle.certificate.proofs.OutcomeSteps.{judged-refusal, judged-figures, refused-by-verdict, room-asked, answers-refusal}
+use Rattle.certificate.proofs.certificates.write_sheet.Statement.{statement}
+use Rattle.certificate.proofs.certificates.write_sheet.Tie as tie
+
+verdict-of-requires : tie.Need-verdict-of-requires
+verdict-of-requires c κs = search needs
+
+enum-known-verdict : tie.Need-enum-known-verdict
+enum-known-verdict c = search needs
+
+told-of-requires : tie.Need-told-of-requires
+told-of-requires c κs = search needs
+
+enum-known-verdict-2 : tie.Need-enum-known-verdict-2
+enum-known-verdict-2 c = search needs
+
+line-values-requires : tie.Need-line-values-requires
+line-values-requires c κs = search needs
+
+put-requires : tie.Need-put-requires
+put-requires c κs = search needs
+
+returns : tie.Need-returns
+returns c =
+    let a = c .before .before .before .before .before .before .args in
+    answers-refusal _ _ (a .buffer .now) _
+    (refused-by-verdict (a .q) (length (a .buffer .now)) (judged-refusal (c .before .before .before .before .verdict-of .ensures) (c .before .before .verdict .given .1))) (c .told-of .ensures)
+
+same-length : tie.Need-same-length
+same-length c = search needs
+
+returns-2 : tie.Need-returns-2
+returns-2 c =
+    let a = c .before .before .before .before .before .before .before .before .before .before .args in
+    let b = a .buffer .now in
+    let o =
+    ap (λ (vs : List ℤ). fitted (length b) (linesText vs)) (c .before .before .before .before .line-values .ensures)
+    ∙ sym (room-asked (a .q) (length b) (judged-figures (c .before .before .before .before .before .before .before .before .verdict-of .ensures) (c .before .before .before .before .before .before .verdict2 .given .1))) in
+    let w = c .before .before .put .ensures in
+    (w .0 ∙ ap answerOf o, w .1 ∙ ap (λ (x : Outcome). bufferAfter x b) o)
+
+pub write-sheet-spec : {M : Type 1} → statement M
+write-sheet-spec =
+    tie.close
+    (tie.spec
+    verdict-of-requires
+    enum-known-verdict
+    told-of-requires
+    enum-known-verdict-2
+    line-values-requires
+    put-requires
+    returns
+    same-length
+    returns-2)

@@ -1,0 +1,133 @@
+//! One call of the archive beside the reference: the answer and every byte of
+//! the memory in which the buffer lies.
+
+use crate::calls;
+use reference::text::{self, Answer};
+use std::fmt::Write;
+
+/// What a call is given.
+#[derive(Clone, Copy)]
+pub enum Call<'a> {
+    Write(&'a [u8]),
+    Check(&'a [u8]),
+    FromNumbers([u64; 12]),
+}
+
+/// Bytes on either side of a buffer, which no call may touch.
+const FENCE: usize = 64;
+
+/// How many calls agreed, by the refusal's number.
+#[derive(Default)]
+pub struct Agreed {
+    pub calls: [u64; 14],
+}
+
+impl Agreed {
+    pub fn total(&self) -> u64 {
+        self.calls.iter().sum()
+    }
+
+    pub fn add(&mut self, more: &Agreed) {
+        for (sum, n) in self.calls.iter_mut().zip(more.calls) {
+            *sum += n;
+        }
+    }
+
+    /// Calls both with a buffer of so many bytes; what is written, or how they
+    /// differ.
+    pub fn call(&mut self, call: Call, room: usize) -> Result<Vec<u8>, String> {
+        let mut seen = fenced(room);
+        let mut expected = seen.clone();
+        let answer = of_archive(call, inner(&mut seen));
+        let right = of_reference(call, inner(&mut expected));
+        if answer != right || seen != expected {
+            return Err(difference(call, room, (answer, &seen), (right, &expected)));
+        }
+        self.calls[answer.number as usize] += 1;
+        let written = match (call, answer.number) {
+            (Call::Check(_), _) | (_, 1..) => 0,
+            _ => answer.length as usize,
+        };
+        Ok(inner(&mut seen)[..written].to_vec())
+    }
+}
+
+/// Memory with a buffer in its middle. The bytes vary, so that one moved to
+/// another place shows.
+fn fenced(room: usize) -> Vec<u8> {
+    (0..room + 2 * FENCE)
+        .map(|i| (i * 31 % 251) as u8)
+        .collect()
+}
+
+fn inner(memory: &mut [u8]) -> &mut [u8] {
+    let end = memory.len() - FENCE;
+    &mut memory[FENCE..end]
+}
+
+fn of_archive(call: Call, buffer: &mut [u8]) -> Answer {
+    match call {
+        Call::Write(sheet) => calls::write(sheet, buffer),
+        Call::Check(certificate) => calls::check(certificate),
+        Call::FromNumbers(numbers) => calls::from_numbers(numbers, buffer),
+    }
+}
+
+fn of_reference(call: Call, buffer: &mut [u8]) -> Answer {
+    match call {
+        Call::Write(sheet) => text::write_from_text(sheet, buffer),
+        Call::Check(certificate) => text::check(certificate),
+        Call::FromNumbers(numbers) => text::write_from_numbers(numbers, buffer),
+    }
+}
+
+/// The case, so that a person can paste it, and both results.
+fn difference(call: Call, room: usize, seen: (Answer, &[u8]), expected: (Answer, &[u8])) -> String {
+    let mut report = match call {
+        Call::Write(sheet) => format!(
+            "certificate_write, a buffer of {room} bytes, on what this prints:\n    printf '{}'\n",
+            for_printf(sheet)
+        ),
+        Call::Check(certificate) => format!(
+            "certificate_check, on what this prints:\n    printf '{}'\n",
+            for_printf(certificate)
+        ),
+        Call::FromNumbers(numbers) => format!(
+            "certificate_from_numbers, a buffer of {room} bytes, on these numbers:\n    {numbers:?}\n"
+        ),
+    };
+    for (whose, (answer, memory)) in [("archive", seen), ("reference", expected)] {
+        let Answer {
+            number,
+            line,
+            length,
+        } = answer;
+        let bytes = memory[FENCE..FENCE + room].escape_ascii();
+        let _ = writeln!(
+            report,
+            "{whose}: refusal {number}, line {line}, length {length}; the buffer:\n    {bytes}"
+        );
+    }
+    if let Some(at) = (0..room + 2 * FENCE).find(|&at| seen.1[at] != expected.1[at]) {
+        let place = at as i64 - FENCE as i64;
+        let _ = writeln!(
+            report,
+            "the first byte that differs is at {place} of the buffer"
+        );
+    }
+    report
+}
+
+/// Bytes as a format of printf(1) in single quotes.
+fn for_printf(bytes: &[u8]) -> String {
+    let mut format = String::new();
+    for &byte in bytes {
+        match byte {
+            b'\n' => format += "\\n",
+            b'%' => format += "%%",
+            b'\\' | b'\'' | 0..=31 | 127.. => format += &format!("\\{byte:03o}"),
+            _ => format.push(byte as char),
+        }
+    }
+    format
+}

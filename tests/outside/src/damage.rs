@@ -1,0 +1,128 @@
+//! Texts and numbers with faults.
+
+use reference::generate::Chance;
+use reference::sheet::RANGES;
+
+/// Bytes that a fault puts in: those with a meaning in a text and some others.
+pub const FAULTS: [u8; 18] = [
+    0, 9, b'\n', b'\r', b' ', b'+', b'-', b'.', b'=', b'0', b'1', b'9', b':', b'C', b'Z', b'c',
+    127, 255,
+];
+
+fn place(chance: &mut Chance, length: usize) -> usize {
+    chance.between(0, length as u64) as usize
+}
+
+fn fault(chance: &mut Chance) -> u8 {
+    FAULTS[place(chance, FAULTS.len() - 1)]
+}
+
+fn lines(text: &[u8]) -> Vec<Vec<u8>> {
+    text.split_inclusive(|&byte| byte == b'\n')
+        .map(<[u8]>::to_vec)
+        .collect()
+}
+
+/// One fault more.
+fn damage(chance: &mut Chance, text: &mut Vec<u8>) {
+    let at = place(chance, text.len());
+    match chance.between(0, 12) {
+        0 => text.insert(at, fault(chance)),
+        1 => text.truncate(at),
+        2 => text.extend((0..=chance.between(0, 200)).map(|_| fault(chance))),
+        3 | 4 if at < text.len() => text[at] = fault(chance),
+        5 if at < text.len() => text[at] ^= 1 << chance.between(0, 7),
+        6 if at < text.len() => {
+            text.remove(at);
+        }
+        7 | 8 => *text = exchanged_lines(chance, lines(text)).concat(),
+        _ => *text = another_value(chance, lines(text)).concat(),
+    }
+}
+
+/// A line left out, doubled, or exchanged with another.
+fn exchanged_lines(chance: &mut Chance, mut lines: Vec<Vec<u8>>) -> Vec<Vec<u8>> {
+    if lines.is_empty() {
+        return lines;
+    }
+    let (i, j) = (
+        place(chance, lines.len() - 1),
+        place(chance, lines.len() - 1),
+    );
+    match chance.between(0, 2) {
+        0 => {
+            lines.remove(i);
+        }
+        1 => lines.insert(i, lines[j].clone()),
+        _ => lines.swap(i, j),
+    }
+    lines
+}
+
+/// A line with another value, spelt right or not.
+fn another_value(chance: &mut Chance, mut lines: Vec<Vec<u8>>) -> Vec<Vec<u8>> {
+    if lines.is_empty() {
+        return lines;
+    }
+    let i = place(chance, lines.len() - 1);
+    let line = String::from_utf8_lossy(&lines[i]).into_owned();
+    let (key, old) = line.trim_end().split_once('=').unwrap_or((&line, ""));
+    let old: u64 = old.parse().unwrap_or(0);
+    let value = match chance.between(0, 9) {
+        0 => format!("0{old}"),
+        1 => format!("-{old}"),
+        2 => "-0".to_string(),
+        3 => String::new(),
+        4 => number(chance).to_string(),
+        5 => chance.between(0, old.min(1 << 40) * 2).to_string(),
+        6 | 7 => old.saturating_sub(1).to_string(),
+        _ => old.saturating_add(1).to_string(),
+    };
+    lines[i] = format!("{key}={value}\n").into_bytes();
+    lines
+}
+
+/// A number of any size.
+fn number(chance: &mut Chance) -> u64 {
+    const MARKS: [u64; 8] = [
+        0,
+        9_999_999_999,
+        10_000_000_000,
+        1 << 31,
+        1 << 32,
+        1 << 63,
+        u64::MAX - 1,
+        u64::MAX,
+    ];
+    match chance.between(0, 3) {
+        0 => chance.one_of(&MARKS),
+        1 => chance.between(0, 9),
+        _ => chance.between(0, (1 << 48) - 1) >> chance.between(0, 47),
+    }
+}
+
+/// A text with one fault, or some.
+pub fn damaged(chance: &mut Chance, text: &[u8]) -> Vec<u8> {
+    let mut text = text.to_vec();
+    for _ in 0..chance.one_of(&[1, 1, 1, 2, 4]) {
+        damage(chance, &mut text);
+    }
+    text
+}
+
+/// A sheet's numbers with one to three of them moved a little, put to an end of
+/// their range or beside it, or replaced.
+pub fn moved(chance: &mut Chance, mut numbers: [u64; 12]) -> [u64; 12] {
+    for _ in 0..chance.between(1, 3) {
+        let i = place(chance, 11);
+        let (least, greatest) = RANGES[i];
+        numbers[i] = match chance.between(0, 5) {
+            0 => numbers[i].saturating_add(1),
+            1 => numbers[i].saturating_sub(1),
+            2 => chance.one_of(&[least, greatest, greatest + 1, least.saturating_sub(1)]),
+            3 | 4 => chance.between(least, greatest),
+            _ => number(chance),
+        };
+    }
+    numbers
+}

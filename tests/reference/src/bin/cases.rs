@@ -1,0 +1,97 @@
+//! Writes what the programs read and have to print, and the examples:
+//!
+//! cases FOLDER
+//!
+//! makes FOLDER/crates/{certify,verify,certificate_cases} and FOLDER/examples.
+
+use reference::cases::{certificate_of, certificates, sheets, text_of, z_section};
+use reference::generate::{SHEET_A, SHEET_B};
+use reference::text::{
+    check, printed, printed_check, write_from_text, Answer, LONGEST_CERTIFICATE,
+};
+use std::path::Path;
+use std::process::ExitCode;
+use std::{env, fs, io};
+
+fn main() -> ExitCode {
+    let arguments: Vec<String> = env::args().skip(1).collect();
+    let [folder] = &arguments[..] else {
+        eprintln!("cases FOLDER");
+        return ExitCode::FAILURE;
+    };
+    match write_all(Path::new(folder)) {
+        Ok(()) => ExitCode::SUCCESS,
+        Err(error) => {
+            eprintln!("{error}");
+            ExitCode::FAILURE
+        }
+    }
+}
+
+fn write_all(folder: &Path) -> io::Result<()> {
+    let sheet = text_of(SHEET_B);
+    let certificate = certificate_of(SHEET_B);
+    let checked = printed_check(certificate.as_bytes());
+    program(folder, "certify", &sheet, &printed(sheet.as_bytes()))?;
+    program(folder, "verify", &certificate, &checked)?;
+    certificate_cases(folder)?;
+    examples(folder)
+}
+
+fn put(path: &Path, bytes: impl AsRef<[u8]>) -> io::Result<()> {
+    fs::create_dir_all(path.parent().expect("a folder"))?;
+    fs::write(path, bytes)
+}
+
+fn program(folder: &Path, name: &str, stdin: &str, stdout: &str) -> io::Result<()> {
+    let own = folder.join("crates").join(name);
+    put(&own.join("stdin"), stdin)?;
+    put(&own.join("stdout"), stdout)
+}
+
+/// Each text under data/, its name among the arguments, and what is printed.
+fn certificate_cases(folder: &Path) -> io::Result<()> {
+    let own = folder.join("crates").join("certificate_cases");
+    let (mut args, mut stdout) = (String::new(), String::new());
+    for case in sheets() {
+        let name = format!("sheets/{}", case.name);
+        put(&own.join("data").join(&name), &case.text)?;
+        stdout += &format!("{name}:{}", written(&case.text));
+        args += &format!("{name}\n");
+    }
+    for case in certificates() {
+        let name = format!("certificates/{}", case.name);
+        put(&own.join("data").join(&name), &case.text)?;
+        stdout += &format!("{name}:{}", numbers(check(&case.text)));
+        args += &format!("{name}\n");
+    }
+    put(&own.join("args"), args)?;
+    put(&own.join("stdout"), stdout)
+}
+
+fn numbers(answer: Answer) -> String {
+    format!(" {} {} {}\n", answer.number, answer.line, answer.length)
+}
+
+/// The answer; of an accepted sheet also the certificate, and what a buffer of
+/// just its length and one of a byte less answer.
+fn written(sheet: &[u8]) -> String {
+    let mut buffer = [0; LONGEST_CERTIFICATE];
+    let answer = write_from_text(sheet, &mut buffer);
+    let length = answer.length as usize;
+    let mut text = numbers(answer) + &String::from_utf8_lossy(&buffer[..length]);
+    if answer.number == 0 {
+        for room in [length, length - 1] {
+            let answer = write_from_text(sheet, &mut buffer[..room]);
+            text += &format!("room {room}:{}", numbers(answer));
+        }
+    }
+    text
+}
+
+fn examples(folder: &Path) -> io::Result<()> {
+    let examples = folder.join("examples");
+    put(&examples.join("sheet_a.txt"), text_of(SHEET_A))?;
+    put(&examples.join("sheet_b.txt"), text_of(SHEET_B))?;
+    put(&examples.join("z_section.txt"), text_of(z_section()))
+}
