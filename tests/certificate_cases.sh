@@ -1,6 +1,6 @@
 #!/usr/bin/env bash
-# Holds what crates/certify, verify and certificate_cases read and have to print, and the sheets of
-# examples/, against what the reference writes. With --write, writes them.
+# Holds what crates/certify, verify and certificate_cases read and have to print, and the sheets and the
+# output of examples/, against what the reference writes. With --write, writes them.
 set -eu
 cd "$(dirname "$0")/.."
 made=$(mktemp -d)
@@ -12,7 +12,7 @@ for part in \
     crates/certify/stdin crates/certify/stdout \
     crates/verify/stdin crates/verify/stdout \
     crates/certificate_cases/args crates/certificate_cases/stdout crates/certificate_cases/data \
-    examples/sheet_a.txt examples/sheet_b.txt examples/z_section.txt; do
+    examples/sheet_a.txt examples/sheet_b.txt examples/z_section.txt examples/output.txt; do
     if [ "${1:-}" = --write ]; then
         rm -rf "$part"
         mkdir -p "$(dirname "$part")"

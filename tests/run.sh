@@ -16,8 +16,10 @@ cargo test --release --offline -q --manifest-path tests/reference/Cargo.toml
 tests/section_cases.sh
 tests/certificate_cases.sh
 
-# The header is C by itself, and the archive behind it answers as the reference does.
+# The header is C by itself, and the archive behind it answers as the reference does, also to the
+# programs of examples/. Here the tests from outside are the quick ones.
 cc -std=c99 -pedantic -Wall -Wextra -Werror -fsyntax-only include/certificate.h
 tests/outside/run.sh
+tests/examples.sh
 
 rt ci

@@ -1,15 +1,10 @@
 // Times the pair operations of crate pair (through libpair_c.a) beside plain C on the same operands.
 // Both must agree on every operand of the run. Prints ns for one operation and the ratio, for
 // operations that do not depend on each other, and for a chain where each waits for the one before.
-#include <math.h>
-#include <stdint.h>
+#define ROOTS_OF_DOUBLES
+#include "plain_pair.h"
+#include "timing.h"
 #include <stdio.h>
-#include <stdlib.h>
-#include <time.h>
-
-typedef uint64_t u64;
-typedef unsigned __int128 u128;
-typedef struct { u64 lo, hi; } Ends;
 
 u64 pair_floor_of(u64 a, u64 b, u64 d);
 u64 pair_ceil_of(u64 a, u64 b, u64 d);
@@ -22,57 +17,25 @@ Ends pair_cube_root(u64 lo, u64 hi, u64 s);
 
 // ---- plain C
 
-static ALONE u64 c_floor_of(u64 a, u64 b, u64 d) { return (u64)((u128)a * b / d); }
-static ALONE u64 c_ceil_of(u64 a, u64 b, u64 d) { return (u64)(((u128)a * b + (d - 1)) / d); }
+static ALONE u64 c_floor_of(u64 a, u64 b, u64 d) { return quotient_down((u128)a * b, d); }
+static ALONE u64 c_ceil_of(u64 a, u64 b, u64 d) { return quotient_up((u128)a * b, d); }
 
 static ALONE Ends c_times(u64 lo, u64 hi, u64 least, u64 most, u64 s) {
-    return (Ends){(u64)((u128)lo * least / s), (u64)(((u128)hi * most + (s - 1)) / s)};
+    return ends_times((Ends){lo, hi}, (Ends){least, most}, s);
 }
 
 static ALONE Ends c_over(u64 lo, u64 hi, u64 least, u64 most, u64 s) {
-    return (Ends){(u64)((u128)lo * s / most), (u64)(((u128)hi * s + (least - 1)) / least)};
+    return ends_over((Ends){lo, hi}, (Ends){least, most}, s);
 }
 
-// The processor's root of a double, corrected in whole numbers.
-static inline u64 square_down(u128 n) {
-    u64 r = (u64)sqrt((double)n);
-    while ((u128)r * r > n) r--;
-    while ((u128)(r + 1) * (r + 1) <= n) r++;
-    return r;
-}
-
-static ALONE Ends c_root(u64 lo, u64 hi, u64 s) {
-    u64 up = square_down((u128)hi * s);
-    return (Ends){square_down((u128)lo * s), up + ((u128)up * up < (u128)hi * s)};
-}
-
-static inline u64 cube_down(u128 n) {
-    u64 r = (u64)cbrt((double)n);
-    while ((u128)r * r * r > n) r--;
-    while ((u128)(r + 1) * (r + 1) * (r + 1) <= n) r++;
-    return r;
-}
-
-static ALONE Ends c_cube_root(u64 lo, u64 hi, u64 s) {
-    u128 a = (u128)lo * s * s, b = (u128)hi * s * s;
-    u64 up = cube_down(b);
-    return (Ends){cube_down(a), up + ((u128)up * up * up < b)};
-}
+static ALONE Ends c_root(u64 lo, u64 hi, u64 s) { return ends_root((Ends){lo, hi}, s); }
+static ALONE Ends c_cube_root(u64 lo, u64 hi, u64 s) { return ends_cube_root((Ends){lo, hi}, s); }
 
 // ---- operands
 
 enum { N = 4096, PASSES = 200, TRIES = 7 };
 
 typedef struct { Ends p[N], q[N]; } Operands;
-
-static u64 state = 88172645463325252u;
-
-static u64 draw(void) {
-    state ^= state << 13;
-    state ^= state >> 7;
-    state ^= state << 17;
-    return state;
-}
 
 // Between least and most, each power of ten as likely as the next.
 static u64 spread(double least, double most) {
@@ -89,12 +52,6 @@ static void fill(Ends *p, double least, double most) {
 }
 
 // ---- timing
-
-static double seconds(void) {
-    struct timespec t;
-    clock_gettime(CLOCK_MONOTONIC, &t);
-    return (double)t.tv_sec + (double)t.tv_nsec * 1e-9;
-}
 
 static u64 scale = 1000000;
 static volatile u64 sink;

@@ -1,16 +1,19 @@
-//! Links target/staticlib/libcertificate.a, which `rt staticlib certificate` writes.
+//! Links the archives that `rt staticlib certificate` and `rt staticlib pair_c`
+//! write to target/staticlib.
 
 use std::path::Path;
 
 fn main() {
     let folder = Path::new(env!("CARGO_MANIFEST_DIR")).join("../../target/staticlib");
-    let archive = folder.join("libcertificate.a");
-    assert!(
-        archive.exists(),
-        "{} is not there: run `rt staticlib certificate`",
-        archive.display()
-    );
-    println!("cargo:rerun-if-changed={}", archive.display());
     println!("cargo:rustc-link-search=native={}", folder.display());
-    println!("cargo:rustc-link-lib=static=certificate");
+    for name in ["certificate", "pair_c"] {
+        let archive = folder.join(format!("lib{name}.a"));
+        assert!(
+            archive.exists(),
+            "{} is not there: run `rt staticlib {name}`",
+            archive.display()
+        );
+        println!("cargo:rerun-if-changed={}", archive.display());
+        println!("cargo:rustc-link-lib=static={name}");
+    }
 }

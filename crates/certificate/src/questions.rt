@@ -74,9 +74,10 @@ fn within(span: Span, v: u64) -> bool
 fn range(values: [u64; 12]) -> Found
     ensures { λ f. ⌜ f ≡ firstOf (ranged 1 ranges values) ⌝ }
 {
+    let ranges = RANGES;
     let mut i = 0;
     while i < 12 {
-        let span = RANGES[i];
+        let span = ranges[i];
         let v = values[i];
         if !within(span, v) {
             let line = i as u64 + 1;

@@ -4,7 +4,7 @@ use Prim.Native.Nat.{ℕ, zero, suc, _+_, _*_, _/_, _%_, _^_, _≤_, _<_}
 use native.Mathlib.Nat.{mul-le-mul-left}
 use native.Mathlib.Omega.{arith}
 use Rattle.pair.specs.Remainders.{SquareRooted, CubeRooted}
-use Rattle.pair.proofs.Extraction.{square-lt, square-taken, cube-lt, cube-taken}
+use Rattle.pair.proofs.Extraction.{square-lt, square-restated, square-taken, cube-lt, cube-taken}
 
 multiple : (s : ℕ) → s % 64 ≡ 0 → s / 64 * 64 ≡ s
 multiple s e = omega arith
@@ -33,3 +33,11 @@ square-ready h i = (i .small, omega (arith, square-lt (2 ^ 36) h i), omega arith
 
 pub cube-ready : {n r w l : ℕ} → n < 2 ^ 78 → CubeRooted n r w l → (w ≡ 3 * (r * r)) × (l ≤ w + 3 * r) × (r < 2 ^ 28) × (0 < 8)
 cube-ready h i = (i .triple, i .small, omega (arith, cube-lt (2 ^ 26) h i), omega arith)
+
+-- the root of v × (s / 64), and with three digits 0 more that of v × s
+module _ (v s : ℕ) (e : s % 64 ≡ 0) {r l : ℕ} where
+  pub scaled-ready : v * s < 2 ^ 70 → SquareRooted (v * (s / 64)) r l → (l ≤ 2 * r) × ((r * r + l) * 64 < 2 ^ 70)
+  scaled-ready h i = (i .small, omega (arith, i .sum, by-64 v s e, h))
+
+  pub scaled : {r' l' : ℕ} → SquareRooted (v * (s / 64)) r l → SquareRooted ((r * r + l) * 64) r' l' → SquareRooted (v * s) r' l'
+  scaled i j = square-restated (omega (arith, i .sum, by-64 v s e)) j

@@ -14,6 +14,12 @@ pub struct Pair {
     pub hi: u64,
 }
 
+// Two pairs, worked side by side.
+pub struct TwoPairs {
+    pub one: Pair,
+    pub two: Pair,
+}
+
 impl Pair {
     // Both ends equal.
     pub fn exact(v: u64) -> Self
@@ -102,6 +108,25 @@ impl Pair {
             lo: below.root,
             hi: roots::square_above(below, self.lo, self.hi, s),
         }
+    }
+
+    // The roots of two pairs, worked side by side.
+    pub fn roots(self, q: Pair, s: u64) -> TwoPairs
+        requires { ⌜ (rootFits s self ≡ true) × (rootFits s q ≡ true) ⌝ }
+        ensures { λ r. ⌜ (r .one ≡ root s self) × (r .two ≡ root s q) ⌝ }
+    {
+        let below = roots::scaled_squares(self.lo, q.lo, s);
+        let first = below.one;
+        let second = below.two;
+        let one = Pair {
+            lo: first.root,
+            hi: roots::square_above(first, self.lo, self.hi, s),
+        };
+        let two = Pair {
+            lo: second.root,
+            hi: roots::square_above(second, q.lo, q.hi, s),
+        };
+        TwoPairs { one, two }
     }
 
     pub fn cube_root(self, s: u64) -> Self

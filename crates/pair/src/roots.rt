@@ -32,16 +32,43 @@ pub fn square_step(t: Square, digit: u64) -> Square
     }
 }
 
+// Two square roots.
+pub struct Squares {
+    pub one: Square,
+    pub two: Square,
+}
+
+// The roots of m and n in one loop: a bit of the one need not wait for a bit of the other.
+pub fn squares_of(m: u64, n: u64) -> Squares
+    ensures { λ r. ⌜ SquareRooted m (r .one .root) (r .one .rest) × SquareRooted n (r .two .root) (r .two .rest) ⌝ }
+{
+    let mut one = Square { root: 0, rest: 0 };
+    let mut two = Square { root: 0, rest: 0 };
+    let most = wide::pick(m < n, n, m);
+    let mut at = (65 - u64::leading_zeros(most)) / 2 * 2;
+    while 0 < at {
+        at -= 2;
+        one = square_step(one, (m >> at) % 4);
+        two = square_step(two, (n >> at) % 4);
+    }
+    Squares { one, two }
+}
+
 pub fn square_of(n: u64) -> Square
     ensures { λ r. ⌜ SquareRooted n (r .root) (r .rest) ⌝ }
 {
-    let mut t = Square { root: 0, rest: 0 };
-    let mut at = (65 - u64::leading_zeros(n)) / 2 * 2;
-    while 0 < at {
-        at -= 2;
-        t = square_step(t, (n >> at) % 4);
-    }
-    t
+    let t = squares_of(n, 0);
+    t.one
+}
+
+// Three digits 0 more.
+fn by_64(t: Square) -> Square
+    requires { ⌜ (t .rest ≤ 2 * t .root) × ((t .root * t .root + t .rest) * 64 < 2 ^ 70) ⌝ }
+    ensures { λ r. ⌜ SquareRooted ((t .root * t .root + t .rest) * 64) (r .root) (r .rest) ⌝ }
+{
+    let a = square_step(t, 0);
+    let b = square_step(a, 0);
+    square_step(b, 0)
 }
 
 // The root of v * s, which may pass 64 bits: of v * (s / 64), and three digits 0 more.
@@ -49,10 +76,20 @@ pub fn scaled_square(v: u64, s: u64) -> Square
     requires { ⌜ (s % 64 ≡ 0) × (v * s < 2 ^ 70) ⌝ }
     ensures { λ r. ⌜ SquareRooted (v * s) (r .root) (r .rest) ⌝ }
 {
-    let a = square_of(v * (s / 64));
-    let b = square_step(a, 0);
-    let c = square_step(b, 0);
-    square_step(c, 0)
+    by_64(square_of(v * (s / 64)))
+}
+
+// The roots of v * s and of w * s.
+pub fn scaled_squares(v: u64, w: u64, s: u64) -> Squares
+    requires { ⌜ (s % 64 ≡ 0) × (v * s < 2 ^ 70) × (w * s < 2 ^ 70) ⌝ }
+    ensures { λ r. ⌜ SquareRooted (v * s) (r .one .root) (r .one .rest) × SquareRooted (w * s) (r .two .root) (r .two .rest) ⌝ }
+{
+    let part = s / 64;
+    let t = squares_of(v * part, w * part);
+    Squares {
+        one: by_64(t.one),
+        two: by_64(t.two),
+    }
 }
 
 // The root of v * s rounded up.

@@ -1,12 +1,13 @@
 -- k at one value of q, as the code works it, and its box and its room up to 0.6; the factor 1 of the first round, and every round's factors.
 use mathlib.Core.Path.{_≡_, refl, ap, _∙_}
-use mathlib.Core.Bool.{true}
+use mathlib.Core.Bool.{true, _&&_}
 use Prim.Native.Nat.{ℕ, zero, suc, _+_, _*_, _≤_, _<_}
 use native.Mathlib.Nat.{le-refl, mul-le-mul}
 use native.Mathlib.Numerals.{add-one}
 use native.Mathlib.Omega.{arith}
-use borrow.Author.Tests.{le-leb, lt-leb}
-use lib.Dec.{lit<, lit≤}
+use borrow.Author.Tests.{le-leb, lt-leb, leb-true, leb-false, eqb-true}
+use lib.Dec.{leb, eqb, lit<, lit≤}
+use Rattle.pair.proofs.Tests.{by-test}
 use Rattle.pair.specs.Pairs.{_to_, ratio, minus, times, cubeRoot}
 use Rattle.pair.specs.Fits.{ratioFits}
 use Rattle.pair.specs.Enclosure.{Inside}
@@ -93,3 +94,26 @@ pub next-round : (n i : ℕ) (t fyb hp cp : Pair) (f₁ f₂ : Flange) {r r′ :
 unfolding rounds
 next-round n i t fyb hp cp f₁ f₂ e f =
     rw (add-one i) (f ∙ ap (λ (x : Round). round n t fyb hp cp f₁ f₂ (x .chi1) (x .chi2)) e)
+
+-- a round that leaves both factors as they were is the same as every later one
+module _ (n : ℕ) (t fyb hp cp : Pair) (f₁ f₂ : Flange) (i : ℕ) where
+  abbrev R : ℕ → Round
+  R j = rounds n t fyb hp cp f₁ f₂ j
+
+  pub settled : (k : ℕ) → (R (suc i)) .chi1 ≡ (R i) .chi1 → (R (suc i)) .chi2 ≡ (R i) .chi2 → i < k → R k ≡ R (suc i)
+  unfolding rounds
+  settled zero g h l = absurd (omega arith)
+  settled (suc k) g h l =
+      by-test (leb (suc i) k) (λ b. R (suc k) ≡ R (suc i))
+      (λ e.
+      let before = settled k g h (leb-true (suc i) k e) in
+      λ x. round n t fyb hp cp f₁ f₂ ((ap (λ (r : Round). r .chi1) before ∙ g) x) ((ap (λ (r : Round). r .chi2) before ∙ h) x))
+      (λ e. let last : k ≡ i = omega (arith, leb-false (suc i) k e, l) in ap (λ (j : ℕ). R (suc j)) last)
+
+-- pairs whose ends are found the same are the same
+pub same-ends : (p q : Pair) → (eqb (p .lo) (q .lo) && eqb (p .hi) (q .hi)) ≡ true → p ≡ q
+same-ends p q e =
+    by-test (eqb (p .lo) (q .lo)) (λ b. (b && eqb (p .hi) (q .hi)) ≡ true → p ≡ q)
+    (λ g h. λ x. record { lo = eqb-true (p .lo) (q .lo) g x; hi = eqb-true (p .hi) (q .hi) h x })
+    (λ g h. let z : _≡_ {A = ℕ} 0 1 = cc in absurd (omega arith))
+    e

@@ -145,8 +145,11 @@ module _ (n : ℕ) where
   D hp kf g o = g ⊗ g ⊗ hp ⊕ g ⊗ g ⊗ g ⊕ constant 1 2 ⊗ g ⊗ o ⊗ hp ⊗ kf
 
   -- ud, the stiffener's slenderness: the root of the root of D÷J×T×T×0.91÷1000000
+  abbrev pub ud⁴ : Pair → Pair → Pair → Pair
+  ud⁴ D J T = D ⊘ J ⊗ T ⊗ T ⊗ constant 91 100 ⊘ whole 1000000
+
   unfoldable pub ud : Pair → Pair → Pair → Pair
-  ud D J T = root S (root S (D ⊘ J ⊗ T ⊗ T ⊗ constant 91 100 ⊘ whole 1000000))
+  ud D J T = root S (root S (ud⁴ D J T))
 
   -- χ, the thickness factor, at one end below 1.38: 1 for ud ≤ 0.65, else the smaller of 1 and 1.47 − 0.723 × ud
   unfoldable pub χ-before-down : ℕ → ℕ

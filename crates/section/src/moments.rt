@@ -7,8 +7,8 @@ ghost use mathlib.Core.Path.{_≡_};
 ghost use mathlib.Core.Bool.{true};
 ghost use Prim.Native.Nat.{_*_};
 ghost use Rattle.pair.specs.Fits.{signedPlusFits};
-ghost use Rattle.pair.specs.SignedPairs.{SignedPair, meaning, signed, signedPlus};
-ghost use Rattle.section.specs.Working.{_⊕_, _⊞_, S, L, lip-moment, flange-moment, far-web-moment, near-web-moment, near-lip-moment, moment, z};
+ghost use Rattle.pair.specs.SignedPairs.{meaning, signed};
+ghost use Rattle.section.specs.Working.{_⊕_, _⊞_, L, lip-moment, flange-moment, far-web-moment, near-web-moment, near-lip-moment, moment, z};
 ghost use Rattle.section.specs.Room.{FixedRoom, LengthRoom, LipMomentRoom, FlangeMomentRoom, FarWebRoom, NearWebRoom, NearLipRoom, outer, OuterRoom, WebRoom, MomentRoom, AxisRoom};
 
 // be1 of both flanges and the web's parts.

@@ -9,10 +9,11 @@ use crate::stiffeners;
 use crate::widths;
 use pair::Pair;
 ghost use mathlib.Core.Path.{_≡_};
+ghost use mathlib.Core.Bool.{_&&_};
 ghost use Prim.Native.Nat.{_*_};
-ghost use Rattle.pair.specs.Pairs.{root};
-ghost use Rattle.section.specs.Working.{S, constant, _⊗_, half-kept, ρ-plane, ρ-lip, flange-of, stiffener-of, χ-of, factors, round, rounds, mm, whole};
-ghost use Rattle.section.specs.Room.{Fine, FlangeRoom, PlaneRoom, LipKeptRoom, StiffenerRoom, FactorRoom, FactorsRoom, RoundRoom, Steady};
+ghost use lib.Dec.{eqb};
+ghost use Rattle.section.specs.Working.{flange-of, stiffener-of, J, T, D, ud⁴, factors, round, rounds, mm, whole};
+ghost use Rattle.section.specs.Room.{FlangeRoom, StiffenerRoom, FactorRoom, FactorsRoom, RoundRoom, Steady};
 
 // A flange of mid-line width bp with its lip.
 pub fn flange_of(n: u64, t: Core, fyb: u64, cp: Pair, bp: Pair) -> Flange
@@ -28,56 +29,38 @@ pub fn flange_of(n: u64, t: Core, fyb: u64, cp: Pair, bp: Pair) -> Flange
     Flange { bp, plane, lip }
 }
 
-// 0.5 * rho * bp, u² of the plane multiplied by the factor of the round before.
-pub fn plane_kept(n: u64, plane: Pair, before: Pair, bp: Pair) -> Pair
-    requires { ⌜ PlaneRoom n plane before bp ⌝ }
-    ensures { λ r. ⌜ r ≡ half-kept n (ρ-plane n (root (S n) (_⊗_ n plane before))) bp ⌝ }
-{
-    let s = n * 1_000_000;
-    let square = plane.times(before, s);
-    let u = square.root(s);
-    let share = factors::plane_share(n, u);
-    widths::half_kept(n, share, bp)
-}
-
-// rho * cp, u² of the lip multiplied by the factor of the round before.
-fn lip_kept(n: u64, lip: Pair, before: Pair, cp: Pair) -> Pair
-    requires { ⌜ LipKeptRoom n lip before cp ⌝ }
-    ensures { λ r. ⌜ r ≡ _⊗_ n (ρ-lip n (root (S n) (_⊗_ n lip before))) cp ⌝ }
-{
-    let s = n * 1_000_000;
-    let square = lip.times(before, s);
-    let u = square.root(s);
-    let share = factors::lip_share(n, u);
-    share.times(cp, s)
-}
-
+// be2 = 0.5 * rho * bp and c_eff = rho * cp, u² of plane and lip multiplied by the factor of the
+// round before; both roots are worked side by side.
 fn stiffener_of(n: u64, cp: Pair, f: Flange, before: Pair) -> Stiffener
     requires { ⌜ StiffenerRoom n cp f before ⌝ }
     ensures { λ r. ⌜ r ≡ stiffener-of n cp f before ⌝ }
 {
+    let s = n * 1_000_000;
     let bp = f.bp;
-    let plane = f.plane;
-    let lip = f.lip;
-    let be2 = plane_kept(n, plane, before, bp);
-    let c = lip_kept(n, lip, before, cp);
+    let plane = f.plane.times(before, s);
+    let lip = f.lip.times(before, s);
+    let u = plane.roots(lip, s);
+    let plane_share = factors::plane_share(n, u.one);
+    let lip_share = factors::lip_share(n, u.two);
+    let be2 = widths::half_kept(n, plane_share, bp);
+    let c = lip_share.times(cp, s);
     let a = be2.plus(c);
     Stiffener { be2, c, a }
 }
 
-// The thickness factor of one flange, g its own and o the other's.
-fn factor_of(n: u64, t: Core, fyb: u64, hp: Pair, kf: Pair, g: Pair, o: Pair, s: Stiffener) -> Pair
+// The fourth power of one flange's ud, g its own and o the other's.
+fn fourth_of(n: u64, t: Core, fyb: u64, hp: Pair, kf: Pair, g: Pair, o: Pair, s: Stiffener) -> Pair
     requires { ⌜ FactorRoom n (t .0) fyb hp kf g o s ⌝ }
-    ensures { λ r. ⌜ r ≡ χ-of n (mm n (t .0)) (whole n fyb) hp kf g o s ⌝ }
+    ensures { λ r. ⌜ r ≡ ud⁴ n (D n hp kf g o) (J n (mm n (t .0)) s) (T n (mm n (t .0)) (whole n fyb) s) ⌝ }
 {
     let d = stiffeners::flexibility(n, hp, kf, g, o);
     let j = stiffeners::inertia(n, t, s);
     let load = stiffeners::stress(n, t, fyb, s);
-    let u = stiffeners::slenderness(n, d, j, load);
-    factors::factor(n, u)
+    stiffeners::slenderness_fourth(n, d, j, load)
 }
 
-// Both flanges' factors, from their stiffeners; one kf serves both.
+// Both flanges' factors, from their stiffeners; one kf serves both, and both roots are worked side
+// by side.
 fn factors_of(
     n: u64,
     t: Core,
@@ -91,13 +74,16 @@ fn factors_of(
     requires { ⌜ FactorsRoom n (t .0) fyb hp bp1 bp2 one two ⌝ }
     ensures { λ r. ⌜ r ≡ factors n (mm n (t .0)) (whole n fyb) hp bp1 bp2 one two ⌝ }
 {
-    let a1 = one.a;
-    let a2 = two.a;
+    let s = n * 1_000_000;
     let g1 = stiffeners::centre(n, bp1, one);
     let g2 = stiffeners::centre(n, bp2, two);
-    let ratio = a2.over(a1, n * 1_000_000);
-    let chi1 = factor_of(n, t, fyb, hp, ratio, g1, g2, one);
-    let chi2 = factor_of(n, t, fyb, hp, ratio, g2, g1, two);
+    let kf = two.a.over(one.a, s);
+    let fourth1 = fourth_of(n, t, fyb, hp, kf, g1, g2, one);
+    let fourth2 = fourth_of(n, t, fyb, hp, kf, g2, g1, two);
+    let squares = fourth1.roots(fourth2, s);
+    let u = squares.one.roots(squares.two, s);
+    let chi1 = factors::factor(n, u.one);
+    let chi2 = factors::factor(n, u.two);
     Round {
         one,
         two,
@@ -137,7 +123,15 @@ pub fn first_round(n: u64, t: Core, fyb: u64, hp: Pair, cp: Pair, f1: Flange, f2
     one_round(n, t, fyb, hp, cp, f1, f2, one, one)
 }
 
-// As many refining rounds as the sheet says, from the first working.
+// Whether two pairs have the same ends.
+fn same(p: Pair, q: Pair) -> bool
+    ensures { λ r. ⌜ r ≡ (eqb (p .lo) (q .lo) && eqb (p .hi) (q .hi)) ⌝ }
+{
+    p.lo == q.lo && p.hi == q.hi
+}
+
+// As many refining rounds as the sheet says, from the first working. A round that leaves both factors
+// as they were is the last: the next would be the same.
 pub fn refined(
     n: u64,
     t: Core,
@@ -158,6 +152,9 @@ pub fn refined(
         let chi1 = r.chi1;
         let chi2 = r.chi2;
         r = one_round(n, t, fyb, hp, cp, f1, f2, chi1, chi2);
+        if same(r.chi1, chi1) && same(r.chi2, chi2) {
+            return r;
+        }
         i += 1;
     }
     r

@@ -26,7 +26,7 @@ ghost use Rattle.section.specs.Sheets.{Sound};
 ghost use Rattle.section.specs.Working.{S, mm, whole, u², ρ-plane, half-kept, effective, full, worked};
 ghost use Rattle.section.specs.Figures.{figures, allowed};
 ghost use Rattle.section.specs.Forms.{LinesAre, workedOf, printedOf};
-ghost use Rattle.section.specs.Room.{Fine, WebKeptRoom, EffectiveRoom, FullRoom, SheetRoom, hp-of, cp-of, bp₁-of, bp₂-of, effective-of, full-of};
+ghost use Rattle.section.specs.Room.{Fine, WebKeptRoom, EffectiveRoom, FullRoom, SheetRoom, hp-of, effective-of, full-of};
 
 // he = 0.5 * rho * hp of the web.
 fn web_kept(n: u64, t: Core, fyb: u64, hp: Pair) -> Pair

@@ -7,8 +7,8 @@ use pair::Pair;
 ghost use mathlib.Core.Path.{_≡_};
 ghost use Prim.Native.Nat.{_*_};
 ghost use Rattle.pair.specs.Pairs.{over};
-ghost use Rattle.section.specs.Working.{S, constant, _⊗_, _⊘_, g, J, T, D, ud, mm, whole};
-ghost use Rattle.section.specs.Room.{Fine, CentreRoom, PlateRoom, CubeRoom, FarLipRoom, InertiaRoom, StressRoom, CrossRoom, BendRoom, LoadRoom, UdRoom};
+ghost use Rattle.section.specs.Working.{constant, _⊗_, _⊘_, g, J, T, D, ud⁴, mm, whole};
+ghost use Rattle.section.specs.Room.{CentreRoom, PlateRoom, CubeRoom, FarLipRoom, InertiaRoom, StressRoom, CrossRoom, BendRoom, LoadRoom, UdRoom};
 
 // g = bp - be2 * be2 / (2 * a).
 pub fn centre(n: u64, bp: Pair, s: Stiffener) -> Pair
@@ -121,15 +121,13 @@ fn load(n: u64, d: Pair, j: Pair, t: Pair) -> Pair
     once.times(t, s)
 }
 
-// ud, the root of the root of D / J * T * T * 0.91 / 1000000.
-pub fn slenderness(n: u64, d: Pair, j: Pair, t: Pair) -> Pair
+// The fourth power of ud: D / J * T * T * 0.91 / 1000000.
+pub fn slenderness_fourth(n: u64, d: Pair, j: Pair, t: Pair) -> Pair
     requires { ⌜ UdRoom n d j t ⌝ }
-    ensures { λ r. ⌜ r ≡ ud n d j t ⌝ }
+    ensures { λ r. ⌜ r ≡ ud⁴ n d j t ⌝ }
 {
     let s = n * 1_000_000;
     let product = load(n, d, j, t);
     let poisson = product.times_ratio(91, 100, s);
-    let million = poisson.over_ratio(1_000_000, 1, s);
-    let inner = million.root(s);
-    inner.root(s)
+    poisson.over_ratio(1_000_000, 1, s)
 }

@@ -5,11 +5,11 @@ use crate::Nominal;
 use pair::Pair;
 use pair::wide;
 ghost use mathlib.Core.Path.{_≡_};
-ghost use Prim.Native.Nat.{_*_, _^_, _≤_, _<_, min};
+ghost use Prim.Native.Nat.{_*_, _^_, _≤_, _<_};
 ghost use mathlib.Core.Bool.{true};
 ghost use Rattle.pair.specs.Fits.{timesRatioFits};
-ghost use Rattle.section.specs.Working.{S, constant, _⊗_, mid-line, lip-line, u², ρ-down, ρ-up, ρ-plane, ρ-lip, k-past, k-at, k, half-kept, mm, whole};
-ghost use Rattle.section.specs.Room.{Fine, MidRoom, LipRoom, SlenderRoom, Slim, Share, LipRatio, PastRoom, HalfRoom};
+ghost use Rattle.section.specs.Working.{S, constant, _⊗_, mid-line, lip-line, u², half-kept, mm, whole};
+ghost use Rattle.section.specs.Room.{Fine, MidRoom, LipRoom, SlenderRoom, HalfRoom};
 
 // a / b times p, the constant first as the paper writes it.
 pub fn constant_times(n: u64, a: u64, b: u64, p: Pair) -> Pair

@@ -59,15 +59,18 @@ fn slenderness_of(
     kf: Pair,
     g: Pair,
     o: Pair,
-    s: Stiffener,
+    stiffener: Stiffener,
 ) -> Pair
-    requires { ⌜ FactorRoom n (t .0) fyb hp kf g o s ⌝ }
-    ensures { λ r. ⌜ r ≡ ud n (D n hp kf g o) (J n (mm n (t .0)) s) (T n (mm n (t .0)) (whole n fyb) s) ⌝ }
+    requires { ⌜ FactorRoom n (t .0) fyb hp kf g o stiffener ⌝ }
+    ensures { λ r. ⌜ r ≡ ud n (D n hp kf g o) (J n (mm n (t .0)) stiffener) (T n (mm n (t .0)) (whole n fyb) stiffener) ⌝ }
 {
     let d = stiffeners::flexibility(n, hp, kf, g, o);
-    let j = stiffeners::inertia(n, t, s);
-    let load = stiffeners::stress(n, t, fyb, s);
-    stiffeners::slenderness(n, d, j, load)
+    let j = stiffeners::inertia(n, t, stiffener);
+    let load = stiffeners::stress(n, t, fyb, stiffener);
+    let s = n * 1_000_000;
+    let fourth = stiffeners::slenderness_fourth(n, d, j, load);
+    let square = fourth.root(s);
+    square.root(s)
 }
 
 // ud, and the factors of it.

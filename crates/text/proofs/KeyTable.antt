@@ -3,7 +3,7 @@ use Prim.Native.Nat.{ℕ, zero, suc, _-_, _≤_, _<_, max}
 use mathlib.Core.List.{List, [], _∷_, _++_, map}
 use mathlib.Core.Path.{_≡_, refl}
 use native.Mathlib.Omega.{arith}
-use lib.ListN.{length, take, getD, replicate, length-append}
+use lib.ListN.{length, take, getD, replicate}
 use lib.Seq.{take-append-seam}
 use Rattle.text.specs.Keys.{keys, keyOf, certificateLines}
 
@@ -42,10 +42,6 @@ module _ (i : ℕ) (below : i < certificateLines) (d : List ℕ) where
   pub row-length : getD lengths i 0 ≡ length (keyOf i)
   unfolding keys lengths keyOf
   row-length = entry length keys i 0 [] below
-
-  pub row-fits : getD lengths i 0 ≤ length (getD rows i d)
-  unfolding keys rows keyOf
-  row-fits = rw (entry padded keys i d [] below, row-length, length-append) (omega arith)
 
   pub row-key : take (getD lengths i 0) (getD rows i d) ≡ keyOf i
   unfolding keys rows keyOf

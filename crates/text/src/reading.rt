@@ -11,7 +11,7 @@ ghost use mathlib.Core.Path.{_≡_};
 ghost use Prim.Native.Nat.{suc, _*_, _^_, _≤_, _<_};
 ghost use lib.ListN.{length, getD, take, drop};
 ghost use lib.IntN.{pos};
-ghost use Rattle.text.specs.Keys.{kindOf, certificateLines};
+ghost use Rattle.text.specs.Keys.{keyOf, kindOf, certificateLines};
 ghost use Rattle.text.specs.Lines.{mostDigits};
 ghost use Rattle.text.specs.Reading.{isDigit, ended, readDigits, readNumber, readShift, readLetter, readValue, begins, readLine, readLines};
 ghost use Rattle.text.specs.Forms.{integers, front, Within, reading};
@@ -171,15 +171,15 @@ fn key_at(s: &[u8], at: usize, key: &[u8]) -> bool
     true
 }
 
-// Line i, which is to begin at `at`.
-fn line_at(s: &[u8], at: usize, i: usize) -> Line
-    requires { ⌜ i < certificateLines ⌝ }
+// Line i, which is to begin at `at`; key and n are its row of the tables, which the loop over lines
+// holds.
+fn line_at(s: &[u8], at: usize, i: usize, key: [u8; 8], n: usize) -> Line
+    requires { ⌜ n ≤ 8 ⌝ }
+    requires { ⌜ take n key ≡ keyOf i ⌝ }
     requires { ⌜ at ≤ length (now s) ⌝ }
     ensures { λ r. ⌜ front (now (s .entry)) r ≡ readLine i (drop at (now (s .entry))) ⌝ }
     ensures { λ r. ⌜ Within (length (now (s .entry))) r ⌝ }
 {
-    let key = KEYS[i];
-    let n = KEY_LENGTHS[i];
     if key_at(s, at, &key[..n]) {
         return value_at(s, at + n, i);
     }
@@ -195,11 +195,15 @@ pub fn read_lines(s: &[u8], count: usize) -> Lines
         below: false,
         size: 0,
     };
+    let keys = KEYS;
+    let lengths = KEY_LENGTHS;
     let mut values = [zero; CERTIFICATE_LINES];
     let mut at = 0;
     let mut i = 0;
     while i < count {
-        let found = line_at(s, at, i);
+        let key = keys[i];
+        let n = lengths[i];
+        let found = line_at(s, at, i, key, n);
         match found {
             Line::Got(v, next) => {
                 values[i] = v;

@@ -9,9 +9,9 @@ use crate::keys::NEWLINE;
 use pair::signed::Integer;
 ghost use mathlib.Core.Path.{_≡_};
 ghost use Prim.Native.Nat.{_*_, _≤_, _<_};
-ghost use lib.ListN.{length};
+ghost use lib.ListN.{length, take};
 ghost use Rattle.pair.specs.SignedPairs.{integer};
-ghost use Rattle.text.specs.Keys.{kindOf, certificateLines};
+ghost use Rattle.text.specs.Keys.{keyOf, kindOf, certificateLines};
 ghost use Rattle.text.specs.Lines.{over, valueText, lineText, linesBetween};
 ghost use Rattle.text.specs.Forms.{integers};
 
@@ -42,13 +42,40 @@ fn put_value(out: &mut [u8], i: usize, v: Integer) -> usize
     decimal::put_integer(out, v)
 }
 
+// The length of line i with the value v, its key being n long.
+fn keyed_length(i: usize, v: Integer, n: usize) -> usize
+    requires { ⌜ n ≤ 8 ⌝ }
+    requires { ⌜ n ≡ length (keyOf i) ⌝ }
+    ensures { λ r. ⌜ r ≡ length (lineText i (integer v)) ⌝ }
+    ensures { λ r. ⌜ r ≤ 30 ⌝ }
+{
+    n + value_width(i, v) + 1
+}
+
 // The length of line i with the value v.
 pub fn line_length(i: usize, v: Integer) -> usize
     requires { ⌜ i < certificateLines ⌝ }
     ensures { λ r. ⌜ r ≡ length (lineText i (integer v)) ⌝ }
     ensures { λ r. ⌜ r ≤ 30 ⌝ }
 {
-    KEY_LENGTHS[i] + value_width(i, v) + 1
+    let n = KEY_LENGTHS[i];
+    keyed_length(i, v, n)
+}
+
+// Writes line i with the value v at the start of out, and answers its length; key and n are its row of
+// the tables, which a loop over lines holds.
+fn put_line(out: &mut [u8], i: usize, v: Integer, key: [u8; 8], n: usize) -> usize
+    requires { ⌜ n ≤ 8 ⌝ }
+    requires { ⌜ take n key ≡ keyOf i ⌝ }
+    requires { ⌜ length (lineText i (integer v)) ≤ length (now out) ⌝ }
+    ensures { λ r. ⌜ r ≡ length (lineText i (integer v)) ⌝ }
+    ensures { λ _. ⌜ now (out .exit) ≡ over (lineText i (integer v)) (now (out .entry)) ⌝ }
+{
+    let k = bytes::copy(&key[..n], out);
+    let end = k + put_value(&mut out[k..], i, v);
+    let next = end + 1;
+    out[end] = NEWLINE;
+    next
 }
 
 // Writes line i with the value v at the start of out, and answers its length.
@@ -60,11 +87,7 @@ pub fn write_line(out: &mut [u8], i: usize, v: Integer) -> usize
 {
     let key = KEYS[i];
     let n = KEY_LENGTHS[i];
-    let k = bytes::copy(&key[..n], out);
-    let end = k + put_value(&mut out[k..], i, v);
-    let next = end + 1;
-    out[end] = NEWLINE;
-    next
+    put_line(out, i, v, key, n)
 }
 
 // The length of the lines from line i up to, not including, line j, with their values among `values`.
@@ -74,11 +97,13 @@ pub fn lines_length(values: [Integer; CERTIFICATE_LINES], i: usize, j: usize) ->
     ensures { λ r. ⌜ r ≡ length (linesBetween i j (integers values)) ⌝ }
     ensures { λ r. ⌜ r ≤ 30 * certificateLines ⌝ }
 {
+    let lengths = KEY_LENGTHS;
     let mut n = 0;
     let mut k = i;
     while k < j {
         let v = values[k];
-        n = n + line_length(k, v);
+        let key = lengths[k];
+        n = n + keyed_length(k, v, key);
         k += 1;
     }
     n
@@ -98,11 +123,15 @@ pub fn write_lines(
     ensures { λ r. ⌜ r ≡ length (linesBetween i j (integers values)) ⌝ }
     ensures { λ _. ⌜ now (out .exit) ≡ over (linesBetween i j (integers values)) (now (out .entry)) ⌝ }
 {
+    let keys = KEYS;
+    let lengths = KEY_LENGTHS;
     let mut at = 0;
     let mut k = i;
     while k < j {
         let v = values[k];
-        at = at + write_line(&mut out[at..], k, v);
+        let key = keys[k];
+        let n = lengths[k];
+        at = at + put_line(&mut out[at..], k, v, key, n);
         k += 1;
     }
     at

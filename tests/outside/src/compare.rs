@@ -13,21 +13,26 @@ pub enum Call<'a> {
     FromNumbers([u64; 12]),
 }
 
-/// Bytes on either side of a buffer, which no call may touch.
+/// At least so many bytes stand on either side of a buffer, which no call may
+/// touch.
 const FENCE: usize = 64;
 
-/// How many calls agreed, by the refusal's number.
+/// Where the buffer begins: at any place of a machine word, by its length.
+fn front(room: usize) -> usize {
+    FENCE + room % 16
+}
+
+/// How many sheets or texts were tried, and how many calls agreed, by the
+/// refusal's number.
 #[derive(Default)]
 pub struct Agreed {
+    pub cases: u64,
     pub calls: [u64; 14],
 }
 
 impl Agreed {
-    pub fn total(&self) -> u64 {
-        self.calls.iter().sum()
-    }
-
     pub fn add(&mut self, more: &Agreed) {
+        self.cases += more.cases;
         for (sum, n) in self.calls.iter_mut().zip(more.calls) {
             *sum += n;
         }
@@ -38,8 +43,8 @@ impl Agreed {
     pub fn call(&mut self, call: Call, room: usize) -> Result<Vec<u8>, String> {
         let mut seen = fenced(room);
         let mut expected = seen.clone();
-        let answer = of_archive(call, inner(&mut seen));
-        let right = of_reference(call, inner(&mut expected));
+        let answer = of_archive(call, inner(&mut seen, room));
+        let right = of_reference(call, inner(&mut expected, room));
         if answer != right || seen != expected {
             return Err(difference(call, room, (answer, &seen), (right, &expected)));
         }
@@ -48,21 +53,20 @@ impl Agreed {
             (Call::Check(_), _) | (_, 1..) => 0,
             _ => answer.length as usize,
         };
-        Ok(inner(&mut seen)[..written].to_vec())
+        Ok(inner(&mut seen, room)[..written].to_vec())
     }
 }
 
 /// Memory with a buffer in its middle. The bytes vary, so that one moved to
 /// another place shows.
 fn fenced(room: usize) -> Vec<u8> {
-    (0..room + 2 * FENCE)
+    (0..front(room) + room + FENCE)
         .map(|i| (i * 31 % 251) as u8)
         .collect()
 }
 
-fn inner(memory: &mut [u8]) -> &mut [u8] {
-    let end = memory.len() - FENCE;
-    &mut memory[FENCE..end]
+fn inner(memory: &mut [u8], room: usize) -> &mut [u8] {
+    &mut memory[front(room)..][..room]
 }
 
 fn of_archive(call: Call, buffer: &mut [u8]) -> Answer {
@@ -93,7 +97,8 @@ fn difference(call: Call, room: usize, seen: (Answer, &[u8]), expected: (Answer,
             for_printf(certificate)
         ),
         Call::FromNumbers(numbers) => format!(
-            "certificate_from_numbers, a buffer of {room} bytes, on these numbers:\n    {numbers:?}\n"
+            "certificate_from_numbers({}, buffer, {room})\n",
+            numbers.map(|n| n.to_string()).join(", ")
         ),
     };
     for (whose, (answer, memory)) in [("archive", seen), ("reference", expected)] {
@@ -102,14 +107,14 @@ fn difference(call: Call, room: usize, seen: (Answer, &[u8]), expected: (Answer,
             line,
             length,
         } = answer;
-        let bytes = memory[FENCE..FENCE + room].escape_ascii();
+        let bytes = memory[front(room)..][..room].escape_ascii();
         let _ = writeln!(
             report,
             "{whose}: refusal {number}, line {line}, length {length}; the buffer:\n    {bytes}"
         );
     }
-    if let Some(at) = (0..room + 2 * FENCE).find(|&at| seen.1[at] != expected.1[at]) {
-        let place = at as i64 - FENCE as i64;
+    if let Some(at) = (0..seen.1.len()).find(|&at| seen.1[at] != expected.1[at]) {
+        let place = at as i64 - front(room) as i64;
         let _ = writeln!(
             report,
             "the first byte that differs is at {place} of the buffer"

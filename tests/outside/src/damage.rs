@@ -101,13 +101,15 @@ fn number(chance: &mut Chance) -> u64 {
     }
 }
 
-/// A text with one fault, or some.
+/// A text with one fault, or some; another than it was.
 pub fn damaged(chance: &mut Chance, text: &[u8]) -> Vec<u8> {
-    let mut text = text.to_vec();
-    for _ in 0..chance.one_of(&[1, 1, 1, 2, 4]) {
-        damage(chance, &mut text);
+    let mut changed = text.to_vec();
+    while changed == text {
+        for _ in 0..chance.one_of(&[1, 1, 1, 2, 4]) {
+            damage(chance, &mut changed);
+        }
     }
-    text
+    changed
 }
 
 /// A sheet's numbers with one to three of them moved a little, put to an end of

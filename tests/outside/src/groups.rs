@@ -1,4 +1,4 @@
-//! What is tried, in groups.
+//! What is tried of the certificate's calls, in groups.
 
 use crate::compare::{Agreed, Call};
 use crate::damage::{damaged, moved, FAULTS};
@@ -7,11 +7,11 @@ use reference::edges::edges;
 use reference::finer::failures;
 use reference::generate::{any_section, sections, Chance, SHEET_A, SHEET_B};
 use reference::sheet::{Figures, Sheet};
-use reference::text::{read_certificate, LONGEST_CERTIFICATE as LONGEST};
+use reference::text::{read_certificate, FIGURE_KEYS, LONGEST_CERTIFICATE as LONGEST};
 
-type Tried = Result<Agreed, String>;
+pub type Tried = Result<Agreed, String>;
 
-/// The sheets on which every place and every room is tried.
+/// The sheets on which every place is tried.
 fn chosen() -> Vec<Sheet> {
     let mut chosen = vec![SHEET_A, SHEET_B, z_section()];
     chosen.extend(sections().into_iter().skip(40).step_by(100));
@@ -20,6 +20,7 @@ fn chosen() -> Vec<Sheet> {
 
 /// A sheet as text and as numbers; where it is accepted, its certificate too.
 fn sheet(agreed: &mut Agreed, sheet: [u64; 12]) -> Result<Option<Vec<u8>>, String> {
+    agreed.cases += 1;
     let text = text_of(Sheet::from_numbers(sheet));
     let from_text = agreed.call(Call::Write(text.as_bytes()), LONGEST)?;
     let certificate = agreed.call(Call::FromNumbers(sheet), LONGEST)?;
@@ -36,20 +37,26 @@ fn sheet(agreed: &mut Agreed, sheet: [u64; 12]) -> Result<Option<Vec<u8>>, Strin
     Ok(Some(certificate))
 }
 
+/// Sheets that were built or found.
+pub fn given(sheets: impl IntoIterator<Item = [u64; 12]>) -> Tried {
+    let mut agreed = Agreed::default();
+    for numbers in sheets {
+        sheet(&mut agreed, numbers)?;
+    }
+    Ok(agreed)
+}
+
 /// Sections at the places where the rules turn, sheets at the edges of the
 /// questions, and the texts of the programs' cases.
 pub fn kept_cases() -> Tried {
-    let mut agreed = Agreed::default();
-    for section in sections() {
-        sheet(&mut agreed, section.numbers())?;
-    }
-    for numbers in edges() {
-        sheet(&mut agreed, numbers)?;
-    }
+    let kept = sections().into_iter().map(|section| section.numbers());
+    let mut agreed = given(kept.chain(edges()))?;
     for case in sheets() {
+        agreed.cases += 1;
         agreed.call(Call::Write(&case.text), LONGEST)?;
     }
     for case in certificates() {
+        agreed.cases += 1;
         agreed.call(Call::Check(&case.text), LONGEST)?;
     }
     Ok(agreed)
@@ -57,25 +64,24 @@ pub fn kept_cases() -> Tried {
 
 /// The greatest word, 0, and form 2, in each place of some sheets.
 pub fn extreme_numbers() -> Tried {
-    let mut agreed = Agreed::default();
+    let mut tried = vec![[u64::MAX; 12]];
     for section in chosen() {
         for place in 0..12 {
             for extreme in [0, 2, 1 << 32, u64::MAX] {
                 let mut numbers = section.numbers();
                 numbers[place] = extreme;
-                sheet(&mut agreed, numbers)?;
+                tried.push(numbers);
             }
         }
     }
-    agreed.call(Call::FromNumbers([u64::MAX; 12]), LONGEST)?;
-    Ok(agreed)
+    given(tried)
 }
 
-/// The certificates of the chosen sheets, with the sheets' texts.
-fn texts(agreed: &mut Agreed) -> Result<Vec<(String, Vec<u8>)>, String> {
+/// The texts of accepted sheets, with their certificates.
+fn texts(sheets: Vec<Sheet>) -> Result<Vec<(String, Vec<u8>)>, String> {
     let mut found = Vec::new();
-    for section in chosen() {
-        if let Some(certificate) = sheet(agreed, section.numbers())? {
+    for section in sheets {
+        if let Some(certificate) = sheet(&mut Agreed::default(), section.numbers())? {
             found.push((text_of(section), certificate));
         }
     }
@@ -83,16 +89,24 @@ fn texts(agreed: &mut Agreed) -> Result<Vec<(String, Vec<u8>)>, String> {
     Ok(found)
 }
 
-/// Buffers of every length from 0 to one more than needed.
-pub fn every_room() -> Tried {
+/// Buffers of every length from 0 to more than the longest certificate, for one
+/// in so many sections and for the sheets of the programs' cases, of which each
+/// question refuses some.
+pub fn every_room(step: usize) -> Tried {
     let mut agreed = Agreed::default();
-    for section in chosen() {
-        let numbers = section.numbers();
-        let text = text_of(section);
-        let needed = agreed.call(Call::FromNumbers(numbers), LONGEST)?.len();
-        for room in 0..=needed + 1 {
-            agreed.call(Call::Write(text.as_bytes()), room)?;
-            agreed.call(Call::FromNumbers(numbers), room)?;
+    let mut tried: Vec<Vec<u8>> = sheets().into_iter().map(|case| case.text).collect();
+    let sections = sections().into_iter().step_by(step);
+    tried.extend(sections.clone().map(|s| text_of(s).into_bytes()));
+    for text in &tried {
+        agreed.cases += 1;
+        for room in 0..=LONGEST + 2 {
+            agreed.call(Call::Write(text), room)?;
+        }
+    }
+    for section in sections {
+        agreed.cases += 1;
+        for room in 0..=LONGEST + 2 {
+            agreed.call(Call::FromNumbers(section.numbers()), room)?;
         }
     }
     Ok(agreed)
@@ -102,11 +116,13 @@ pub fn every_room() -> Tried {
 /// past the end shows.
 pub fn every_cut() -> Tried {
     let mut agreed = Agreed::default();
-    for (sheet, certificate) in texts(&mut agreed)? {
+    for (sheet, certificate) in texts(chosen())? {
         for n in 0..=sheet.len() {
+            agreed.cases += 1;
             agreed.call(Call::Write(&sheet.as_bytes()[..n]), LONGEST)?;
         }
         for n in 0..=certificate.len() {
+            agreed.cases += 1;
             agreed.call(Call::Check(&certificate[..n]), LONGEST)?;
             agreed.call(Call::Write(&certificate[..n]), LONGEST)?;
         }
@@ -129,73 +145,107 @@ fn faults_at(text: &[u8], at: usize) -> Vec<Vec<u8>> {
 /// A byte changed, put in and left out at every place, and bytes behind.
 pub fn every_place() -> Tried {
     let mut agreed = Agreed::default();
-    for (sheet, certificate) in texts(&mut agreed)?.into_iter().take(4) {
-        let sheet = sheet.as_bytes();
-        for fault in (0..sheet.len()).flat_map(|at| faults_at(sheet, at)) {
+    for (sheet, certificate) in texts(chosen())?.into_iter().take(4) {
+        let faults = |text: &[u8]| -> Vec<Vec<u8>> {
+            let mut all: Vec<_> = (0..text.len()).flat_map(|at| faults_at(text, at)).collect();
+            for byte in FAULTS {
+                all.extend([1, 2, 300].map(|n| [text, &vec![byte; n]].concat()));
+            }
+            all
+        };
+        for fault in faults(sheet.as_bytes()) {
+            agreed.cases += 1;
             agreed.call(Call::Write(&fault), LONGEST)?;
         }
-        for fault in (0..certificate.len()).flat_map(|at| faults_at(&certificate, at)) {
+        for fault in faults(&certificate) {
+            agreed.cases += 1;
             agreed.call(Call::Check(&fault), LONGEST)?;
-        }
-        for byte in FAULTS {
-            for n in [1, 2, 300] {
-                agreed.call(Call::Write(&[sheet, &vec![byte; n]].concat()), LONGEST)?;
-                agreed.call(
-                    Call::Check(&[&certificate, &vec![byte; n][..]].concat()),
-                    LONGEST,
-                )?;
-            }
         }
     }
     Ok(agreed)
+}
+
+/// Each figure of a certificate moved by up to two (question 13).
+pub fn figures_moved(step: usize) -> Tried {
+    let mut agreed = Agreed::default();
+    let sections = sections().into_iter().step_by(step).collect();
+    for (_, certificate) in texts(sections)? {
+        let certificate = String::from_utf8(certificate).expect("a text");
+        for (key, moved) in FIGURE_KEYS
+            .iter()
+            .flat_map(|key| [-2, -1, 1, 2].map(|m| (key, m)))
+        {
+            agreed.cases += 1;
+            let moved = with_figure_moved(&certificate, key, moved);
+            agreed.call(Call::Check(moved.as_bytes()), LONGEST)?;
+        }
+    }
+    Ok(agreed)
+}
+
+fn with_figure_moved(certificate: &str, key: &str, moved: i64) -> String {
+    let line = |line: &str| match line.split_once('=') {
+        Some((its, value)) if its == key => {
+            let value: i64 = value.parse().expect("a figure");
+            format!("{key}={}\n", value + moved)
+        }
+        _ => format!("{line}\n"),
+    };
+    certificate.lines().map(line).collect()
 }
 
 /// Random sections over the whole ranges, corners over-weighted.
 pub fn random_sections(seed: u64, count: u64) -> Tried {
-    let mut agreed = Agreed::default();
     let mut chance = Chance::seeded(seed);
-    for _ in 0..count {
-        sheet(&mut agreed, any_section(&mut chance).numbers())?;
-    }
-    Ok(agreed)
+    given((0..count).map(|_| any_section(&mut chance).numbers()))
 }
 
 /// Random sections with some numbers moved, most of them to be refused.
 pub fn random_numbers(seed: u64, count: u64) -> Tried {
+    let mut chance = Chance::seeded(seed);
+    given((0..count).map(|_| {
+        let section = any_section(&mut chance).numbers();
+        moved(&mut chance, section)
+    }))
+}
+
+/// Damaged sheets, written in rooms of any size.
+pub fn damaged_sheets(seed: u64, count: u64) -> Tried {
     let mut agreed = Agreed::default();
     let mut chance = Chance::seeded(seed);
+    let whole = texts(sections())?;
     for _ in 0..count {
-        let section = any_section(&mut chance).numbers();
-        sheet(&mut agreed, moved(&mut chance, section))?;
+        let (sheet, _) = &whole[chance.between(0, whole.len() as u64 - 1) as usize];
+        let room = chance.between(0, LONGEST as u64) as usize;
+        agreed.cases += 1;
+        agreed.call(Call::Write(&damaged(&mut chance, sheet.as_bytes())), room)?;
     }
     Ok(agreed)
 }
 
-/// Damaged sheets and certificates, written and checked, in rooms of any size.
-pub fn damaged_texts(seed: u64, count: u64) -> Tried {
+/// Damaged certificates, checked.
+pub fn damaged_certificates(seed: u64, count: u64) -> Tried {
     let mut agreed = Agreed::default();
     let mut chance = Chance::seeded(seed);
-    let whole = texts(&mut agreed)?;
+    let whole = texts(sections())?;
     for _ in 0..count {
-        let (sheet, certificate) = &whole[chance.between(0, whole.len() as u64 - 1) as usize];
-        let room = chance.between(0, LONGEST as u64) as usize;
-        let sheet = damaged(&mut chance, sheet.as_bytes());
-        let certificate = damaged(&mut chance, certificate);
-        agreed.call(Call::Write(&sheet), room)?;
-        agreed.call(Call::Check(&certificate), LONGEST)?;
+        let (_, certificate) = &whole[chance.between(0, whole.len() as u64 - 1) as usize];
+        agreed.cases += 1;
+        agreed.call(Call::Check(&damaged(&mut chance, certificate)), LONGEST)?;
     }
     Ok(agreed)
 }
 
 /// Demand 3 at some m: what a certificate shows, read back from its text, holds
-/// the reference's working at m times the scale.
-pub fn finer_workings(seed: u64, count: u64) -> Tried {
+/// the reference's working at m times the scale. The cases are the sheets that
+/// are accepted.
+pub fn finer_workings(seed: u64, count: u64, sheets: &[Sheet]) -> Tried {
     let mut agreed = Agreed::default();
     let mut chance = Chance::seeded(seed);
-    let mut tried: Vec<Sheet> = chosen();
-    tried.extend((0..count).map(|_| any_section(&mut chance)));
-    for section in tried {
+    let random = (0..count).map(|_| any_section(&mut chance));
+    for section in sheets.iter().copied().chain(random) {
         let Some(certificate) = sheet(&mut agreed, section.numbers())? else {
+            agreed.cases -= 1;
             continue;
         };
         let (numbers, figures) = read_certificate(&certificate).expect("a certificate");

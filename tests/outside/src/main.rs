@@ -1,65 +1,143 @@
-//! Calls the archive of crate certificate beside the reference and compares the
-//! answers and every byte of the buffers.
+//! Calls the archives of crates certificate and pair_c from outside: the
+//! certificate's calls beside the reference, answers and every byte of the
+//! buffers, and the pair operations beside exact results.
 //!
-//! outside           in some seconds
-//! outside --long    with 200,000 of each sort of random case
+//! outside                  in some seconds
+//! outside --long           in some minutes, 200,000 of each sort of random case
+//! outside --seed NUMBER    with other random cases
 
 mod calls;
 mod compare;
 mod damage;
+mod exact;
 mod groups;
+mod operands;
+mod operations;
+mod pair_calls;
+mod turns;
 
 use compare::Agreed;
+use groups::Tried;
+use operations::OPERATIONS;
+use reference::generate::Chance;
+use reference::thresholds::{kept, KEPT};
 use std::env;
 use std::process::ExitCode;
+use std::time::Instant;
 
-const SEED: u64 = 0x0123_4567_89AB_CDEF;
+/// What the switches ask for.
+struct Asked {
+    long: bool,
+    seed: u64,
+}
+
+fn asked(mut arguments: impl Iterator<Item = String>) -> Option<Asked> {
+    let mut asked = Asked {
+        long: false,
+        seed: 81_985_529_216_486_895,
+    };
+    while let Some(argument) = arguments.next() {
+        match argument.as_str() {
+            "--long" => asked.long = true,
+            "--seed" => asked.seed = arguments.next()?.parse().ok().filter(|&seed| seed > 0)?,
+            _ => return None,
+        }
+    }
+    Some(asked)
+}
 
 fn main() -> ExitCode {
-    let arguments: Vec<String> = env::args().skip(1).collect();
-    let long = match arguments.iter().map(String::as_str).collect::<Vec<_>>()[..] {
-        [] => false,
-        ["--long"] => true,
-        _ => {
-            eprintln!("outside [--long]");
-            return ExitCode::FAILURE;
-        }
+    let Some(asked) = asked(env::args().skip(1)) else {
+        eprintln!("outside [--long] [--seed NUMBER], the number above 0");
+        return ExitCode::FAILURE;
     };
-    match run(if long { 200_000 } else { 4_000 }) {
-        Ok(all) => {
-            println!(
-                "outside: {} calls, as the reference answers them",
-                all.total()
-            );
-            ExitCode::SUCCESS
-        }
+    match run(&asked) {
+        Ok(()) => ExitCode::SUCCESS,
         Err(difference) => {
-            println!("outside: not as the reference\n{difference}");
+            println!(
+                "outside: seed {}: not as it should be\n{difference}",
+                asked.seed
+            );
             ExitCode::FAILURE
         }
     }
 }
 
-fn run(count: u64) -> Result<Agreed, String> {
-    println!("outside: seed {SEED:#x}, {count} random cases of each sort");
-    println!("{:24} calls with refusal 0, 1, .. 13", "");
-    let mut all = Agreed::default();
-    let mut told = |name: &str, agreed: Agreed| {
-        let counts: Vec<String> = agreed.calls.iter().map(u64::to_string).collect();
-        println!("{name:24} {}", counts.join(" "));
-        all.add(&agreed);
-    };
-    told("kept cases", groups::kept_cases()?);
-    told("extreme numbers", groups::extreme_numbers()?);
-    told("every room", groups::every_room()?);
-    told("cut at every byte", groups::every_cut()?);
-    told("a fault at every place", groups::every_place()?);
-    told("random sections", groups::random_sections(SEED, count)?);
-    told("random numbers", groups::random_numbers(SEED, count)?);
-    told("damaged texts", groups::damaged_texts(SEED, count)?);
-    told(
-        "m = 2, 3, 10, 1000",
-        groups::finer_workings(SEED, count / 20)?,
+fn run(asked: &Asked) -> Result<(), String> {
+    let started = Instant::now();
+    let count = if asked.long { 200_000 } else { 10_000 };
+    println!(
+        "outside: seed {}, {count} random cases of each sort",
+        asked.seed
     );
-    Ok(all)
+    let operations = pair_operations(asked.seed, count)?;
+    let calls = certificates(asked, count)?;
+    println!(
+        "\noutside: {operations} pair operations and {calls} calls are as they should be, in {:.0} s",
+        started.elapsed().as_secs_f64()
+    );
+    Ok(())
+}
+
+/// How many calls were tried.
+fn pair_operations(seed: u64, count: u64) -> Result<u64, String> {
+    let names = OPERATIONS.map(|(name, _)| name).join(", ");
+    println!(
+        "\n{count} random operands of each of {} operations of pair: {names}",
+        OPERATIONS.len()
+    );
+    let mut chance = Chance::seeded(seed);
+    for (name, operation) in OPERATIONS {
+        for _ in 0..count {
+            operation(&mut chance).map_err(|call| format!("{name}: {call}"))?;
+        }
+    }
+    Ok(count * OPERATIONS.len() as u64)
+}
+
+/// How many calls were tried.
+fn certificates(asked: &Asked, count: u64) -> Result<u64, String> {
+    let seed = asked.seed;
+    let mut near = kept();
+    if asked.long {
+        near.extend(turns::found_near(seed, 2 * KEPT));
+    }
+    turns::tell_near(&near, KEPT)?;
+    let limits = turns::at_limits(seed, if asked.long { 100 } else { 12 });
+    let step = if asked.long { 1 } else { 60 };
+
+    println!(
+        "\n{:24} {:>7} {:>8}   calls with refusal 0, 1, .. 13",
+        "", "cases", "s"
+    );
+    let mut all = Agreed::default();
+    let mut tell = |name: &str, group: &dyn Fn() -> Tried| -> Result<(), String> {
+        let started = Instant::now();
+        let agreed = group()?;
+        let counts = agreed.calls.map(|n| n.to_string()).join(" ");
+        let seconds = started.elapsed().as_secs_f64();
+        println!("{name:24} {:7} {seconds:8.1}   {counts}", agreed.cases);
+        all.add(&agreed);
+        Ok(())
+    };
+    tell("near thresholds", &|| {
+        groups::given(near.iter().map(|s| s.numbers()))
+    })?;
+    tell("at limits", &|| groups::given(limits.iter().copied()))?;
+    tell("kept cases", &groups::kept_cases)?;
+    tell("extreme numbers", &groups::extreme_numbers)?;
+    tell("every room", &|| groups::every_room(step))?;
+    tell("cut at every byte", &groups::every_cut)?;
+    tell("a fault at every place", &groups::every_place)?;
+    tell("figures moved", &|| groups::figures_moved(step))?;
+    tell("random sections", &|| groups::random_sections(seed, count))?;
+    tell("random numbers", &|| groups::random_numbers(seed, count))?;
+    tell("damaged sheets", &|| groups::damaged_sheets(seed, count))?;
+    tell("damaged certificates", &|| {
+        groups::damaged_certificates(seed, count)
+    })?;
+    tell("m = 2, 3, 10, 1000", &|| {
+        groups::finer_workings(seed, count / 4, &near)
+    })?;
+    Ok(all.calls.iter().sum())
 }

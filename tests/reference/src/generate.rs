@@ -97,7 +97,7 @@ pub fn worked(sheet: &Sheet) -> Working {
 
 /// A number of the sheet that a search moves.
 #[derive(Clone, Copy)]
-enum Field {
+pub(crate) enum Field {
     H,
     B1,
     B2,
@@ -116,7 +116,7 @@ impl Field {
         changed
     }
 
-    fn of_flange(i: usize) -> Field {
+    pub(crate) fn of_flange(i: usize) -> Field {
         [Field::B1, Field::B2][i]
     }
 }
@@ -350,7 +350,7 @@ fn ratio_at_turn(chance: &mut Chance) -> Option<Sheet> {
 }
 
 /// The two neighbours in a field between which a worked value crosses a mark.
-fn crossing(
+pub(crate) fn crossing(
     sheet: &Sheet,
     field: Field,
     value: impl Fn(&Working) -> i128,

@@ -6,8 +6,9 @@
 
 use reference::cases::{certificate_of, certificates, sheets, text_of, z_section};
 use reference::generate::{SHEET_A, SHEET_B};
+use reference::sheet::Sheet;
 use reference::text::{
-    check, printed, printed_check, write_from_text, Answer, LONGEST_CERTIFICATE,
+    check, printed, printed_check, write_from_numbers, write_from_text, Answer, LONGEST_CERTIFICATE,
 };
 use std::path::Path;
 use std::process::ExitCode;
@@ -93,5 +94,47 @@ fn examples(folder: &Path) -> io::Result<()> {
     let examples = folder.join("examples");
     put(&examples.join("sheet_a.txt"), text_of(SHEET_A))?;
     put(&examples.join("sheet_b.txt"), text_of(SHEET_B))?;
-    put(&examples.join("z_section.txt"), text_of(z_section()))
+    put(&examples.join("z_section.txt"), text_of(z_section()))?;
+    put(&examples.join("output.txt"), example_output())
+}
+
+/// What examples/certificate.c and certificate.py print.
+fn example_output() -> String {
+    let certificate = certificate_of(SHEET_B);
+    let mut changed = certificate.clone().into_bytes();
+    let last_digit = changed.len() - 2;
+    changed[last_digit] ^= 1;
+    let no_allowance = Sheet {
+        allow: 0,
+        ..SHEET_B
+    };
+    let wrote = |sheet: Sheet, room| write_from_numbers(sheet.numbers(), &mut vec![0; room]);
+    [
+        told(
+            "Certificate from twelve numbers",
+            wrote(SHEET_B, LONGEST_CERTIFICATE),
+        ),
+        certificate.clone(),
+        told("Checked", check(certificate.as_bytes())),
+        told("Checked with a digit changed", check(&changed)),
+        told(
+            "Certificate of the sheet with allow=0",
+            wrote(no_allowance, LONGEST_CERTIFICATE),
+        ),
+        told("Certificate in a buffer of 100 bytes", wrote(SHEET_B, 100)),
+    ]
+    .concat()
+}
+
+fn told(what: &str, answer: Answer) -> String {
+    let Answer {
+        number,
+        line,
+        length,
+    } = answer;
+    match number {
+        0 => format!("{what}: in order, {length} bytes\n"),
+        12 => format!("{what}: the buffer is too short, {length} bytes are needed\n"),
+        _ => format!("{what}: refused, question {number}, line {line}\n"),
+    }
 }

@@ -1,13 +1,15 @@
 //! Writes test sections and their expected results, sheets at the edges of the
-//! questions, or every intermediate pair of sheet B.
+//! questions, every intermediate pair of sheet B, or sheets near the thresholds.
 //!
 //! sections INPUTS RESULTS
 //! sections --edges INPUTS RESULTS
 //! sections --intermediate FILE
+//! sections --thresholds FILE
 
 use reference::edges::edges;
-use reference::generate::{sections, worked, KINDS, SHEET_B};
+use reference::generate::{sections, worked, Chance, KINDS, SEED, SHEET_B};
 use reference::sheet::{ask_before_working, Figures, Sheet};
+use reference::thresholds::{search, KEPT, THRESHOLDS};
 use reference::working::Working;
 use std::fmt::Display;
 use std::process::ExitCode;
@@ -17,10 +19,13 @@ fn main() -> ExitCode {
     let arguments: Vec<String> = env::args().skip(1).collect();
     let done = match arguments.iter().map(String::as_str).collect::<Vec<_>>()[..] {
         ["--intermediate", file] => fs::write(file, intermediate_lines(&SHEET_B)),
+        ["--thresholds", file] => fs::write(file, threshold_lines()),
         ["--edges", inputs, results] => write_edges(inputs, results),
         [inputs, results] => write_sections(inputs, results),
         _ => {
-            eprintln!("sections [--edges] INPUTS RESULTS | sections --intermediate FILE");
+            eprintln!(
+                "sections [--edges] INPUTS RESULTS | sections --intermediate|--thresholds FILE"
+            );
             return ExitCode::FAILURE;
         }
     };
@@ -87,6 +92,18 @@ fn intermediate_lines(sheet: &Sheet) -> String {
         .iter()
         .map(|(name, pair)| format!("{name} {} {}\n", pair.lo, pair.hi))
         .collect()
+}
+
+/// The sheets near each threshold, one to a line, under its name.
+fn threshold_lines() -> String {
+    let mut chance = Chance::seeded(SEED);
+    let mut lines = "# Found and written by `sections --thresholds`.\n".to_string();
+    for threshold in &THRESHOLDS {
+        lines += &format!("# {}\n", threshold.name);
+        let found = search(threshold, &mut chance, KEPT);
+        lines.extend(found.iter().map(|sheet| line(&sheet.numbers())));
+    }
+    lines
 }
 
 fn print_counts(all: &[(Sheet, Working)]) {

@@ -75,7 +75,7 @@ module _ (c : tie.After-same Inv-loop μ-loop) where
   ws = integers (start .args .t2)
 
   below : i < certificateLines
-  below = turn .loop-test .taken
+  below = omega (arith, turn .loop-test .taken)
 
   in-shown : i < length vs
   in-shown = omega (arith, below, counts start, length-map (start .args .t1) integer)

@@ -12,10 +12,10 @@ use Rattle.certificate.proofs.questions.range.Statement.{statement}
 use Rattle.certificate.proofs.questions.range.Tie as tie
 
 abbrev Inv-loop : tie.InvT-loop
-Inv-loop values i₀ i = (i ≤ 12) × (firstOf (ranged 1 ranges values) ≡ firstOf (ranged (i + 1) (drop i ranges) (drop i values)))
+Inv-loop values spans i₀ i = (i ≤ 12) × (firstOf (ranged 1 ranges values) ≡ firstOf (ranged (i + 1) (drop i ranges) (drop i values)))
 
 abbrev μ-loop : tie.MeasureT-loop
-μ-loop values i₀ i = 12 - i
+μ-loop values spans i₀ i = 12 - i
 
 abbrev none : Span
 none = record { least = 0; most = 0 }

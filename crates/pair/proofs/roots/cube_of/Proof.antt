@@ -27,7 +27,7 @@ mul-at c = omega (arith, leading-le 64 (c .args .n))
 loop-holds : tie.Need-loop-holds Inv-loop μ-loop
 loop-holds c =
     let n = c .args .n in
-    (record { sum = omega (arith, nothing-above n ((66 - leadingZeros 64 n) / 3 * 3) (c .fits .n .fits) (omega (arith, leading-le 64 n))); small = omega arith; triple = omega arith }, omega (arith, leading-le 64 n), omega (arith, leading-le 64 n))
+    (record { sum = omega (arith, nothing-above n n ((66 - leadingZeros 64 n) / 3 * 3) (omega arith) (c .fits .n .fits) (omega (arith, leading-le 64 n))); small = omega arith; triple = omega arith }, omega (arith, leading-le 64 n), omega (arith, leading-le 64 n))
 
 sub-at-2 : tie.Need-sub-at-2 Inv-loop μ-loop
 sub-at-2 c = omega arith

@@ -2,24 +2,26 @@
 use borrow.Author.Needs.{needs}
 use Prim.Native.Nat.{ℕ, _-_, _*_, _≤_}
 use mathlib.Core.Bool.{false}
+use mathlib.Core.List.{[]}
 use mathlib.Core.Path.{_≡_, refl, sym, ap, _∙_}
 use native.Mathlib.Omega.{arith}
 use lib.IntN.{ℤ}
 use lib.ListN.{length, getD, length-map, length-append, List·getD-map}
 use Rattle.pair.specs.SignedPairs.{integer}
 use Rattle.pair.specs.declared.signed.Integer.{Integer}
-use Rattle.text.specs.Keys.{certificateLines}
+use Rattle.text.specs.Keys.{keys, certificateLines}
 use Rattle.text.specs.Lines.{lineText, linesBetween}
 use Rattle.text.specs.Forms.{integers}
+use Rattle.text.proofs.KeyTable.{lengths, row-short, row-length}
 use Rattle.text.proofs.LineLaws.{lines-none, lines-next}
 use Rattle.text.proofs.writing.lines_length.Statement.{statement}
 use Rattle.text.proofs.writing.lines_length.Tie as tie
 
 abbrev Inv-loop : tie.InvT-loop
-Inv-loop i j values n₀ k₀ n k = (i ≤ k) × (k ≤ j) × (n ≡ length (linesBetween i k (integers values))) × (n ≤ 30 * k)
+Inv-loop i j values counts n₀ k₀ n k = (i ≤ k) × (k ≤ j) × (n ≡ length (linesBetween i k (integers values))) × (n ≤ 30 * k)
 
 abbrev μ-loop : tie.MeasureT-loop
-μ-loop i j values n₀ k₀ n k = j - k
+μ-loop i j values counts n₀ k₀ n k = j - k
 
 -- an integer by default, which no index within the array reads
 abbrev d : Integer
@@ -41,11 +43,20 @@ mul-v c = omega (arith, c .before .before .pre, c .loop-test .taken)
 array-copy-out-v : tie.Need-array-copy-out-v Inv-loop μ-loop
 array-copy-out-v c = omega (arith, c .before .before .pre, c .loop-test .taken)
 
-line-length-requires : tie.Need-line-length-requires Inv-loop μ-loop
-line-length-requires c κs = omega (arith, c .before .before .before .pre, c .before .loop-test .taken)
+mul-key : tie.Need-mul-key Inv-loop μ-loop
+mul-key c = omega (arith, c .before .before .before .pre, c .before .loop-test .taken)
+
+array-read-key : tie.Need-array-read-key Inv-loop μ-loop
+array-read-key c = omega (arith, c .before .before .before .pre, c .before .loop-test .taken)
+
+keyed-length-requires : tie.Need-keyed-length-requires Inv-loop μ-loop
+unfolding keys lengths
+keyed-length-requires c κs =
+    let k = c .before .before .loop .k in
+    (row-short k, row-length k (omega (arith, c .before .before .before .pre, c .before .loop-test .taken)) [])
 
 add-n : tie.Need-add-n Inv-loop μ-loop
-add-n c = omega (arith, c .line-length .ensures .1, c .before .before .loop-test .taken, c .before .before .before .before .pre)
+add-n c = omega (arith, c .keyed-length .ensures .1, c .before .before .loop-test .taken, c .before .before .before .before .pre)
 
 add-k : tie.Need-add-k Inv-loop μ-loop
 add-k c = omega (arith, c .before .before .loop-test .taken, c .before .before .before .before .pre)
@@ -60,8 +71,8 @@ loop-again c =
     let next = lines-next (integers vs) (head .before .args .i) (head .loop .k) (head .loop .inv .0) (integer d) (omega (arith, count (head .before), head .before .pre, c .before .before .loop-test .taken)) in (
       omega arith,
       omega (arith, c .before .before .loop-test .taken),
-      omega (arith, c .line-length .ensures .0, head .loop .inv .2, ap length next, length-append (linesBetween (head .before .args .i) (head .loop .k) (integers vs)) (lineText (head .loop .k) (getD (integers vs) (head .loop .k) (integer d))), ap (λ (v : ℤ). length (lineText (head .loop .k) v)) (List·getD-map integer vs (head .loop .k) d)),
-      omega (arith, c .line-length .ensures .1),
+      omega (arith, c .keyed-length .ensures .0, head .loop .inv .2, ap length next, length-append (linesBetween (head .before .args .i) (head .loop .k) (integers vs)) (lineText (head .loop .k) (getD (integers vs) (head .loop .k) (integer d))), ap (λ (v : ℤ). length (lineText (head .loop .k) v)) (List·getD-map integer vs (head .loop .k) d)),
+      omega (arith, c .keyed-length .ensures .1),
     )
 
 returns : tie.Need-returns Inv-loop μ-loop
@@ -79,7 +90,9 @@ lines-length-spec =
     loop-holds
     mul-v
     array-copy-out-v
-    line-length-requires
+    mul-key
+    array-read-key
+    keyed-length-requires
     add-n
     add-k
     loop-less

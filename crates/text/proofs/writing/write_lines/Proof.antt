@@ -2,27 +2,28 @@
 use borrow.Author.Needs.{needs}
 use Prim.Native.Nat.{ℕ, _+_, _-_, _≤_, _<_}
 use mathlib.Core.Bool.{false}
-use mathlib.Core.List.{List, _++_}
+use mathlib.Core.List.{List, [], _++_}
 use mathlib.Core.Path.{_≡_, refl, sym, ap, _∙_}
 use native.Mathlib.Omega.{arith}
 use borrow.Rule.Slice.PartMut.{putMid}
 use lib.ListN.{length, getD, length-map, length-append, List·getD-map}
 use Rattle.pair.specs.SignedPairs.{integer}
 use Rattle.pair.specs.declared.signed.Integer.{Integer}
-use Rattle.text.specs.Keys.{certificateLines}
+use Rattle.text.specs.Keys.{keys, certificateLines}
 use Rattle.text.specs.Lines.{over, lineText, linesBetween}
 use Rattle.text.specs.Forms.{integers}
 use Rattle.text.proofs.LentParts.{over-nothing, length-over, part-room, part-written}
+use Rattle.text.proofs.KeyTable.{rows, lengths, row-short, row-key}
 use Rattle.text.proofs.LineLaws.{lines-none, lines-next, lines-room}
 use Rattle.text.proofs.writing.write_lines.Statement.{statement}
 use Rattle.text.proofs.writing.write_lines.Tie as tie
 
 abbrev Inv-loop : tie.InvT-loop
-Inv-loop out₀ i j values at₀ k₀ out at k =
+Inv-loop out₀ i j values table counts at₀ k₀ out at k =
     (i ≤ k) × (k ≤ j) × (at ≡ length (linesBetween i k (integers values))) × (out ≡ over (linesBetween i k (integers values)) out₀)
 
 abbrev μ-loop : tie.MeasureT-loop
-μ-loop out₀ i j values at₀ k₀ out at k = j - k
+μ-loop out₀ i j values table counts at₀ k₀ out at k = j - k
 
 -- an integer by default, which no index within the array reads
 abbrev d : Integer
@@ -85,46 +86,59 @@ mul-v c = omega (arith, start c .pre, c .loop-test .taken)
 array-copy-out-v : tie.Need-array-copy-out-v Inv-loop μ-loop
 array-copy-out-v c = omega (arith, start c .pre, c .loop-test .taken)
 
-sub-write-line : tie.Need-sub-write-line Inv-loop μ-loop
-sub-write-line c = omega (arith, room (c .before), kept (c .before), c .before .before .loop .inv .2)
+mul-key : tie.Need-mul-key Inv-loop μ-loop
+mul-key c = omega (arith, start (c .before) .pre, c .before .loop-test .taken)
 
-part-write-line-start : tie.Need-part-write-line-start Inv-loop μ-loop
-part-write-line-start c = sub-write-line c
+array-copy-out-key : tie.Need-array-copy-out-key Inv-loop μ-loop
+array-copy-out-key c = omega (arith, start (c .before) .pre, c .before .loop-test .taken)
 
-part-write-line-end : tie.Need-part-write-line-end Inv-loop μ-loop
-part-write-line-end c = search needs
+mul-n : tie.Need-mul-n Inv-loop μ-loop
+mul-n c = omega (arith, start (c .before .before) .pre, c .before .before .loop-test .taken)
 
-write-line-requires : tie.Need-write-line-requires Inv-loop μ-loop
-write-line-requires c κs =
-    let turn = c .before .before in
+array-read-n : tie.Need-array-read-n Inv-loop μ-loop
+array-read-n c = omega (arith, start (c .before .before) .pre, c .before .before .loop-test .taken)
+
+sub-put-line : tie.Need-sub-put-line Inv-loop μ-loop
+sub-put-line c = omega (arith, room (c .before .before), kept (c .before .before), c .before .before .before .loop .inv .2)
+
+part-put-line-start : tie.Need-part-put-line-start Inv-loop μ-loop
+part-put-line-start c = sub-put-line c
+
+part-put-line-end : tie.Need-part-put-line-end Inv-loop μ-loop
+part-put-line-end c = search needs
+
+put-line-requires : tie.Need-put-line-requires Inv-loop μ-loop
+unfolding keys rows lengths
+put-line-requires c κs =
+    let turn = c .before .before .before in
     let h = turn .before .loop in
-    (omega (arith, start turn .pre, turn .loop-test .taken), part-room (before turn) (line turn) (B turn) (h .out) (h .at) (h .inv .2) (h .inv .3) (room turn))
+    (row-short (K turn), (row-key (K turn) (omega (arith, start turn .pre, turn .loop-test .taken)) [], part-room (before turn) (line turn) (B turn) (h .out) (h .at) (h .inv .2) (h .inv .3) (room turn)))
 
 -- what the turn leaves
 whole : (c : tie.After-slice-known2 Inv-loop μ-loop)
-    → putMid (c .before .before .before .before .before .before .loop .at) (length (c .before .before .before .before .before .before .loop .out) - c .before .before .before .before .before .before .loop .at) (c .before .before .before .before .before .before .loop .out) (c .before .before .write-line .last .0)
-    ≡ over (before (c .before .before .before .before .before) ++ line (c .before .before .before .before .before)) (B (c .before .before .before .before .before))
+    → putMid (c .before .before .before .before .before .before .before .loop .at) (length (c .before .before .before .before .before .before .before .loop .out) - c .before .before .before .before .before .before .before .loop .at) (c .before .before .before .before .before .before .before .loop .out) (c .before .before .put-line .last .0)
+    ≡ over (before (c .before .before .before .before .before .before) ++ line (c .before .before .before .before .before .before)) (B (c .before .before .before .before .before .before))
 whole c =
-    let turn = c .before .before .before .before .before in
+    let turn = c .before .before .before .before .before .before in
     let h = turn .before .loop in
-    part-written (before turn) (line turn) (B turn) (h .out) (h .at) (h .inv .2) (h .inv .3) (room turn) (c .before .before .write-line .last .0) (c .before .before .write-line .ensures .1)
+    part-written (before turn) (line turn) (B turn) (h .out) (h .at) (h .inv .2) (h .inv .3) (room turn) (c .before .before .put-line .last .0) (c .before .before .put-line .ensures .1)
 
 add-at : tie.Need-add-at Inv-loop μ-loop
-add-at c = let turn = c .before .before .before .before .before in omega (arith, c .before .before .write-line .ensures .0, room turn, turn .before .loop .inv .2)
+add-at c = let turn = c .before .before .before .before .before .before in omega (arith, c .before .before .put-line .ensures .0, room turn, turn .before .loop .inv .2)
 
 add-k : tie.Need-add-k Inv-loop μ-loop
-add-k c = let turn = c .before .before .before .before .before in omega (arith, turn .loop-test .taken, start turn .pre)
+add-k c = let turn = c .before .before .before .before .before .before in omega (arith, turn .loop-test .taken, start turn .pre)
 
 loop-less : tie.Need-loop-less Inv-loop μ-loop
-loop-less c = omega (arith, c .before .before .before .before .before .loop-test .taken)
+loop-less c = omega (arith, c .before .before .before .before .before .before .loop-test .taken)
 
 loop-again : tie.Need-loop-again Inv-loop μ-loop
 loop-again c =
-    let turn = c .before .before .before .before .before in
+    let turn = c .before .before .before .before .before .before in
     let h = turn .before .loop in (
       omega (arith, h .inv .0),
       omega (arith, turn .loop-test .taken),
-      omega (arith, c .before .before .write-line .ensures .0, h .inv .2, ap length (next turn), length-append (before turn) (line turn)),
+      omega (arith, c .before .before .put-line .ensures .0, h .inv .2, ap length (next turn), length-append (before turn) (line turn)),
       whole c ∙ ap (λ (l : List ℕ). over l (B turn)) (sym (next turn)),
     )
 
@@ -156,10 +170,14 @@ write-lines-spec =
     loop-holds
     mul-v
     array-copy-out-v
-    sub-write-line
-    part-write-line-start
-    part-write-line-end
-    write-line-requires
+    mul-key
+    array-copy-out-key
+    mul-n
+    array-read-n
+    sub-put-line
+    part-put-line-start
+    part-put-line-end
+    put-line-requires
     add-at
     add-k
     loop-less

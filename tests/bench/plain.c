@@ -1,0 +1,365 @@
+// Document 01 in plain C with 128-bit integers: what the crates are measured beside.
+#include "calls.h"
+#include "plain_pair.h"
+#include <string.h>
+
+typedef __int128 i128;
+typedef int64_t i64;
+
+#define S 1000000u
+
+enum { SHEET_LINES = 12, LINES = 18, LONGEST = 400 };
+
+typedef struct { u64 form, h, b1, b2, c, r, tnom, t, fyb, gm0, rounds, allow; } Sheet;
+typedef struct { u64 area, axial, chi1, chi2; i64 shiftlo, shifthi; } Figures;
+
+static Answer refused(u64 number, u64 line) { return (Answer){number, line, 0}; }
+
+// ---- pairs
+
+static inline Ends exact(u64 a, u64 b) { return (Ends){a * S / b, a * S / b}; }
+static inline Ends whole(u64 a) { return exact(a, 1); }
+static inline Ends plus(Ends p, Ends q) { return ends_plus(p, q); }
+static inline Ends minus(Ends p, Ends q) { return ends_minus(p, q); }
+static inline Ends times(Ends p, Ends q) { return ends_times(p, q, S); }
+static inline Ends over(Ends p, Ends q) { return ends_over(p, q, S); }
+static inline Ends root(Ends p) { return ends_root(p, S); }
+
+static inline u64 smaller(u64 a, u64 b) { return a < b ? a : b; }
+static inline u64 larger(u64 a, u64 b) { return a < b ? b : a; }
+
+// Pairs that may lie below zero: the distance of the neutral axis, and what it is made of.
+typedef struct { i64 lo, hi; } SignedEnds;
+
+static inline i64 signed_down(i128 n, i64 d) {
+    i128 q = n / d;
+    return (i64)(q - (q * d > n));
+}
+
+static inline i64 signed_up(i128 n, i64 d) {
+    i128 q = n / d;
+    return (i64)(q + (q * d < n));
+}
+
+static inline SignedEnds signed_of(Ends p) { return (SignedEnds){(i64)p.lo, (i64)p.hi}; }
+static inline SignedEnds signed_plus(SignedEnds a, SignedEnds b) { return (SignedEnds){a.lo + b.lo, a.hi + b.hi}; }
+static inline SignedEnds signed_minus(SignedEnds a, SignedEnds b) { return (SignedEnds){a.lo - b.hi, a.hi - b.lo}; }
+
+// By a pair that has nothing below zero.
+static inline SignedEnds signed_times(SignedEnds a, Ends p) {
+    return (SignedEnds){signed_down((i128)a.lo * (a.lo < 0 ? p.hi : p.lo), S), signed_up((i128)a.hi * (a.hi < 0 ? p.lo : p.hi), S)};
+}
+
+static inline SignedEnds signed_over(SignedEnds a, Ends p) {
+    return (SignedEnds){signed_down((i128)a.lo * S, (i64)(a.lo < 0 ? p.lo : p.hi)), signed_up((i128)a.hi * S, (i64)(a.hi < 0 ? p.hi : p.lo))};
+}
+
+// ---- widths and slenderness
+
+static Ends slenderness_squared(Ends w, Ends t, Ends fyb, Ends k) {
+    Ends ratio = over(w, t);
+    return over(over(times(times(ratio, ratio), fyb), exact(1895416, 10)), k);
+}
+
+// rho at the ends: it falls, so its lower end comes from the upper end.
+static Ends share(Ends u, u64 limit, u64 less) {
+    Ends rho = {S, S};
+    if (u.hi > limit) rho.lo = smaller(S, quotient_down((u128)(u.hi - less) * S * S, u.hi * u.hi));
+    if (u.lo > limit) rho.hi = smaller(S, quotient_up((u128)(u.lo - less) * S * S, u.lo * u.lo));
+    return rho;
+}
+
+static Ends plane_share(Ends u_squared) { return share(root(u_squared), 673000, 220000); }
+static Ends lip_share(Ends u_squared) { return share(root(u_squared), 748000, 188000); }
+
+static Ends coefficient_at(u64 q) {
+    if (q <= 350000) return exact(1, 2);
+    Ends past = {q - 350000, q - 350000};
+    return plus(exact(1, 2), times(exact(83, 100), ends_cube_root(times(past, past), S)));
+}
+
+static Ends coefficient(Ends q) { return (Ends){coefficient_at(q.lo).lo, coefficient_at(q.hi).hi}; }
+
+// ---- stiffener of each flange
+
+typedef struct { Ends bp, plane, lip; } Flange;
+typedef struct { Ends be2, c, a, g, chi; } Stiffener;
+typedef struct { Ends hp, cp, t, fyb; Flange flange[2]; } Section;
+
+static Ends half_kept(Ends rho, Ends w) { return times(times(exact(1, 2), rho), w); }
+
+static u64 factor_down(u64 ud) {
+    if (ud <= 650000) return S;
+    if (ud < 1380000) return smaller(S, (1470ull * S - 723 * ud) / 1000);
+    return 66ull * S * S / (100 * ud);
+}
+
+static u64 factor_up(u64 ud) {
+    if (ud <= 650000) return S;
+    if (ud < 1380000) return smaller(S, (1470ull * S - 723 * ud + 999) / 1000);
+    return (66ull * S * S + 100 * ud - 1) / (100 * ud);
+}
+
+static Ends factor(Ends ud) {
+    Ends chi = {factor_down(ud.hi), factor_up(ud.lo)};
+    if (ud.lo < 1380000 && ud.hi >= 1380000) {
+        chi.lo = smaller(472260, chi.lo);
+        chi.hi = larger(factor_up(1380000), chi.hi);
+    }
+    return chi;
+}
+
+// be2, c_eff, a and g, from u^2 of flange and lip.
+static void widths(const Section *x, Stiffener *s, Ends bp, Ends plane, Ends lip) {
+    s->be2 = half_kept(plane_share(plane), bp);
+    s->c = times(lip_share(lip), x->cp);
+    s->a = plus(s->be2, s->c);
+    s->g = minus(bp, over(times(s->be2, s->be2), times(whole(2), s->a)));
+}
+
+static Ends thickness_factor(const Section *x, const Stiffener *s, Ends o, Ends kf) {
+    Ends cube = times(times(s->c, s->c), s->c);
+    Ends flat = over(times(times(s->be2, x->t), x->t), whole(12));
+    Ends far = over(times(cube, s->be2), times(whole(4), s->a));
+    Ends j = plus(plus(flat, over(cube, whole(12))), far);
+    Ends load = over(over(times(x->fyb, s->a), x->t), whole(210));
+    Ends square = times(s->g, s->g);
+    Ends cross = times(times(times(times(exact(1, 2), s->g), o), x->hp), kf);
+    Ends d = plus(plus(times(square, x->hp), times(square, s->g)), cross);
+    Ends product = times(times(over(d, j), load), load);
+    return factor(root(root(over(times(product, exact(91, 100)), whole(1000000)))));
+}
+
+static void factors(const Section *x, Stiffener s[2]) {
+    Ends kf = over(s[1].a, s[0].a);
+    s[0].chi = thickness_factor(x, &s[0], s[1].g, kf);
+    s[1].chi = thickness_factor(x, &s[1], s[0].g, kf);
+}
+
+static void refine(const Section *x, Stiffener s[2]) {
+    for (int i = 0; i < 2; i++) {
+        const Flange *f = &x->flange[i];
+        widths(x, &s[i], f->bp, times(f->plane, s[i].chi), times(f->lip, s[i].chi));
+    }
+    factors(x, s);
+}
+
+// ---- area, resistance, shift
+
+typedef struct { Ends be1[2], be2[2], c[2], a[2], chi[2], he; } Kept;
+
+static Ends length_of(const Kept *k) {
+    Ends sum = plus(plus(plus(k->be1[0], k->be1[1]), k->he), k->he);
+    return plus(plus(sum, times(k->a[0], k->chi[0])), times(k->a[1], k->chi[1]));
+}
+
+static SignedEnds axis(const Kept *k, Ends hp, Ends length) {
+    Ends two = whole(2), he = k->he;
+    SignedEnds arm = signed_minus(signed_of(hp), signed_of(over(k->c[1], two)));
+    SignedEnds sum = signed_times(arm, times(k->c[1], k->chi[1]));
+    sum = signed_plus(sum, signed_of(times(hp, plus(times(k->be2[1], k->chi[1]), k->be1[1]))));
+    sum = signed_plus(sum, signed_of(times(he, minus(hp, over(he, two)))));
+    sum = signed_plus(sum, signed_of(over(times(he, he), two)));
+    sum = signed_plus(sum, signed_of(over(times(times(k->c[0], k->c[0]), k->chi[0]), two)));
+    return signed_over(sum, length);
+}
+
+static void flange_of(Section *x, int i, u64 b, Ends tnom) {
+    Flange *f = &x->flange[i];
+    f->bp = minus(exact(b, 100), tnom);
+    f->plane = slenderness_squared(f->bp, x->t, x->fyb, whole(4));
+    f->lip = slenderness_squared(x->cp, x->t, x->fyb, coefficient(over(x->cp, f->bp)));
+}
+
+static Kept effective(const Section *x, u64 rounds) {
+    Kept k;
+    Stiffener s[2];
+    for (int i = 0; i < 2; i++) {
+        widths(x, &s[i], x->flange[i].bp, x->flange[i].plane, x->flange[i].lip);
+        k.be1[i] = s[i].be2;
+    }
+    factors(x, s);
+    for (u64 n = 0; n < rounds; n++) refine(x, s);
+    for (int i = 0; i < 2; i++) {
+        k.be2[i] = s[i].be2;
+        k.c[i] = s[i].c;
+        k.a[i] = s[i].a;
+        k.chi[i] = s[i].chi;
+    }
+    k.he = half_kept(plane_share(slenderness_squared(x->hp, x->t, x->fyb, whole(4))), x->hp);
+    return k;
+}
+
+static Kept gross(const Section *x) {
+    Kept k;
+    for (int i = 0; i < 2; i++) {
+        k.be1[i] = k.be2[i] = over(x->flange[i].bp, whole(2));
+        k.c[i] = x->cp;
+        k.a[i] = plus(k.be2[i], k.c[i]);
+        k.chi[i] = whole(1);
+    }
+    k.he = over(x->hp, whole(2));
+    return k;
+}
+
+// The figures, and whether they meet question 11.
+static int work(const Sheet *q, Figures *f) {
+    Section x;
+    Ends tnom = exact(q->tnom, 100);
+    x.hp = minus(exact(q->h, 100), tnom);
+    x.cp = minus(exact(q->c, 100), over(tnom, whole(2)));
+    x.t = exact(q->t, 100);
+    x.fyb = whole(q->fyb);
+    flange_of(&x, 0, q->b1, tnom);
+    flange_of(&x, 1, q->b2, tnom);
+    Kept kept = effective(&x, q->rounds), all = gross(&x);
+    Ends length = length_of(&kept);
+    Ends area = times(x.t, length);
+    SignedEnds shift = signed_minus(axis(&kept, x.hp, length), axis(&all, x.hp, length_of(&all)));
+    f->area = area.lo * 100 / S;
+    f->axial = area.lo * q->fyb * 1000 / (q->gm0 * S);
+    f->chi1 = kept.chi[0].lo * 1000 / S;
+    f->chi2 = kept.chi[1].lo * 1000 / S;
+    f->shiftlo = signed_down((i128)shift.lo * 100, S);
+    f->shifthi = signed_up((i128)shift.hi * 100, S);
+    return area.hi * 100 <= (f->area + q->allow) * S;
+}
+
+// ---- questions 2 to 11
+
+static const u64 RANGES[SHEET_LINES][2] = {{0, 1},    {4000, 50000}, {2000, 20000}, {2000, 20000}, {500, 12000}, {0, 3000},
+                                           {50, 600}, {45, 600},     {200, 700},    {1000, 1500},  {0, 8},       {0, 1000}};
+
+static Answer judged(const Sheet *q, Figures *f) {
+    const u64 values[SHEET_LINES] = {q->form, q->h, q->b1,  q->b2,  q->c,      q->r,
+                                     q->tnom, q->t, q->fyb, q->gm0, q->rounds, q->allow};
+    for (int i = 0; i < SHEET_LINES; i++)
+        if (values[i] < RANGES[i][0] || values[i] > RANGES[i][1]) return refused(2, i + 1);
+    const u64 b[2] = {q->b1, q->b2};
+    if (q->t > q->tnom) return refused(3, 8);
+    for (int i = 0; i < 2; i++)
+        if (b[i] > 60 * q->t) return refused(4, 3 + i);
+    if (q->c > 50 * q->t) return refused(5, 5);
+    if (q->h > 500 * q->t) return refused(6, 2);
+    for (int i = 0; i < 2; i++)
+        if (b[i] > 5 * q->c || 5 * q->c > 3 * b[i]) return refused(7, 3 + i);
+    if (q->r > 5 * q->t || 10 * q->r > b[0] - q->tnom || 10 * q->r > b[1] - q->tnom) return refused(8, 6);
+    for (int i = 0; i < 2; i++)
+        if (5 * (2 * q->c - q->tnom) > 6 * (b[i] - q->tnom)) return refused(9, 3 + i);
+    if (q->form == 0 && 2 * q->c > q->h) return refused(10, 5);
+    if (!work(q, f)) return refused(11, 12);
+    return refused(0, 0);
+}
+
+// ---- text
+
+static const char *const KEYS[LINES] = {"form=", "h=",   "b1=",     "b2=",    "c=",    "r=",     "tnom=", "t=",    "fyb=",
+                                        "gm0=",  "rounds=", "allow=", "area=", "axial=", "chi1=", "chi2=", "shiftlo=", "shifthi="};
+
+static char *put_text(char *at, const char *text) {
+    while (*text) *at++ = *text++;
+    return at;
+}
+
+static char *put_number(char *at, u64 n) {
+    char digits[20];
+    int count = 0;
+    do {
+        digits[count++] = (char)('0' + n % 10);
+        n /= 10;
+    } while (n);
+    while (count) *at++ = digits[--count];
+    return at;
+}
+
+static Answer put(const Sheet *q, const Figures *f, uint8_t *buffer, size_t room) {
+    const i64 values[LINES] = {(i64)q->form, (i64)q->h,      (i64)q->b1,    (i64)q->b2,   (i64)q->c,    (i64)q->r,
+                               (i64)q->tnom, (i64)q->t,      (i64)q->fyb,   (i64)q->gm0,  (i64)q->rounds, (i64)q->allow,
+                               (i64)f->area, (i64)f->axial,  (i64)f->chi1,  (i64)f->chi2, f->shiftlo,   f->shifthi};
+    char text[LONGEST], *at = text;
+    for (int i = 0; i < LINES; i++) {
+        at = put_text(at, KEYS[i]);
+        if (i == 0) {
+            *at++ = values[i] ? 'Z' : 'C';
+        } else {
+            if (values[i] < 0) *at++ = '-';
+            at = put_number(at, (u64)(values[i] < 0 ? -values[i] : values[i]));
+        }
+        *at++ = '\n';
+    }
+    size_t length = (size_t)(at - text);
+    if (length > room) return (Answer){12, 0, length};
+    memcpy(buffer, text, length);
+    return (Answer){0, 0, length};
+}
+
+// The number of line i at *at, which moves behind its newline; 0 where the line is bad.
+static int read_line(const uint8_t **at, const uint8_t *end, int i, i64 *value) {
+    const uint8_t *p = *at;
+    for (const char *key = KEYS[i]; *key; key++)
+        if (p == end || *p++ != (uint8_t)*key) return 0;
+    if (i == 0) {
+        if (p == end || (*p != 'C' && *p != 'Z')) return 0;
+        *value = *p++ == 'Z';
+    } else {
+        int negative = i >= 16 && p != end && *p == '-';
+        if (negative) p++;
+        const uint8_t *first = p;
+        i64 n = 0;
+        while (p != end && *p >= '0' && *p <= '9' && p - first < 10) n = n * 10 + (*p++ - '0');
+        if (p == first || (*first == '0' && (p - first > 1 || negative))) return 0;
+        *value = negative ? -n : n;
+    }
+    if (p == end || *p++ != '\n') return 0;
+    *at = p;
+    return 1;
+}
+
+// Question 1: 0, or the first bad line.
+static u64 read_lines(const uint8_t *text, size_t length, int count, i64 values[]) {
+    const uint8_t *at = text, *end = text + length;
+    for (int i = 0; i < count; i++)
+        if (!read_line(&at, end, i, &values[i])) return (u64)i + 1;
+    return at == end ? 0 : (u64)count + 1;
+}
+
+static Sheet sheet_of(const i64 v[]) {
+    return (Sheet){(u64)v[0], (u64)v[1], (u64)v[2], (u64)v[3], (u64)v[4],  (u64)v[5],
+                   (u64)v[6], (u64)v[7], (u64)v[8], (u64)v[9], (u64)v[10], (u64)v[11]};
+}
+
+// ---- the calls
+
+static Answer certify(const Sheet *q, uint8_t *buffer, size_t room) {
+    Figures f;
+    Answer answer = judged(q, &f);
+    return answer.refusal ? answer : put(q, &f, buffer, room);
+}
+
+Answer plain_write(const uint8_t *sheet, size_t sheet_length, uint8_t *buffer, size_t room) {
+    i64 values[SHEET_LINES];
+    u64 bad = read_lines(sheet, sheet_length, SHEET_LINES, values);
+    if (bad) return refused(1, bad);
+    Sheet q = sheet_of(values);
+    return certify(&q, buffer, room);
+}
+
+Answer plain_check(const uint8_t *certificate, size_t length) {
+    i64 values[LINES];
+    u64 bad = read_lines(certificate, length, LINES, values);
+    if (bad) return refused(1, bad);
+    Sheet q = sheet_of(values);
+    Figures f;
+    Answer answer = judged(&q, &f);
+    if (answer.refusal) return answer;
+    const i64 worked[LINES - SHEET_LINES] = {(i64)f.area, (i64)f.axial, (i64)f.chi1, (i64)f.chi2, f.shiftlo, f.shifthi};
+    for (int i = SHEET_LINES; i < LINES; i++)
+        if (values[i] != worked[i - SHEET_LINES]) return refused(13, i + 1);
+    return (Answer){0, 0, length};
+}
+
+Answer plain_from_numbers(u64 form, u64 h, u64 b1, u64 b2, u64 c, u64 r, u64 tnom, u64 t, u64 fyb, u64 gm0, u64 rounds,
+                          u64 allow, uint8_t *buffer, size_t room) {
+    Sheet q = {form, h, b1, b2, c, r, tnom, t, fyb, gm0, rounds, allow};
+    return certify(&q, buffer, room);
+}

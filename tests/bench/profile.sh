@@ -1,0 +1,33 @@
+#!/usr/bin/env bash
+# Says which functions of the archive a certificate with 3 rounds spends its instructions in (valgrind),
+# and its time (perf). Small functions are counted with those that the compiler put them into.
+set -eu
+cd "$(dirname "$0")/../.."
+made=target/bench
+sheets=400
+passes=20
+version=certificate_0
+tests/bench/certificates.sh $version 1 | tail -1
+
+valgrind -q --tool=callgrind --callgrind-out-file=$made/callgrind.out --toggle-collect=certificate_from_numbers_0 \
+    $made/certificates $version $passes >/dev/null
+echo "instructions for one certificate, and their share:"
+callgrind_annotate --threshold=100 $made/callgrind.out | awk -v calls=$((sheets * passes)) '
+    /\[/ {
+        sub(/^ */, "")
+        gsub(/,/, "", $1)
+        count = $1
+        share = $0
+        sub(/^[^(]*\( */, "", share)
+        sub(/%.*/, "", share)
+        name = $0
+        sub(/^[^)]*\) */, "", name)
+        sub(/^[^:]*:/, "", name)
+        sub(/ \[.*/, "", name)
+        if (share + 0 >= 0.5) printf "%8.0f %6.1f%%  %s\n", count / calls, share, name
+    }'
+
+if command -v perf >/dev/null && perf record -q -e cpu-clock -F 5000 -o $made/perf.data $made/certificates $version 4000 >/dev/null 2>&1; then
+    echo "time, its share:"
+    perf report -i $made/perf.data --stdio --percent-limit 0.5 2>/dev/null | awk '/%/ { sub(/^ */, ""); $2 = $3 = $4 = ""; print "  " $0 }'
+fi
