@@ -78,6 +78,13 @@ unfoldable pub bufferAfter : Outcome → List ℕ → List ℕ
 bufferAfter (refused r) b = b
 bufferAfter (written t) b = over t b
 
+-- the same for a call that is lent the buffer b, o being what happens in each room
+abbrev pub answerIn : (ℕ → Outcome) → List ℕ → Answer
+answerIn o b = answerOf (o (length b))
+
+abbrev pub bufferIn : (ℕ → Outcome) → List ℕ → List ℕ
+bufferIn o b = bufferAfter (o (length b)) b
+
 -- what checking finds of a certificate's bytes
 unfoldable pub checkedRead : Reading → Found
 checkedRead (badLine l) = Refused (Spelling l)

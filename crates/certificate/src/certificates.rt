@@ -26,7 +26,7 @@ ghost use Rattle.text.specs.Reading.{values};
 ghost use Rattle.certificate.specs.Claims.{_is_, test};
 ghost use Rattle.certificate.specs.Questions.{sheetOf, firstOf};
 ghost use Rattle.certificate.specs.Certificates.{sheetValues, figureValues, sheetShown};
-ghost use Rattle.certificate.specs.Outcome.{agreeing, fitted, outcomeOf, outcome, answerOf, bufferAfter, checkedRead, checked, checkAnswer};
+ghost use Rattle.certificate.specs.Outcome.{agreeing, fitted, outcomeOf, outcome, answerOf, bufferAfter, answerIn, bufferIn, checkedRead, checked, checkAnswer};
 
 // The value of a line that has no minus.
 fn number(size: u64) -> Integer
@@ -100,8 +100,8 @@ fn put(values: [Integer; CERTIFICATE_LINES], buffer: &mut [u8]) -> Answer
 
 // The certificate of a sheet's numbers, into the buffer.
 pub fn write_sheet(q: Sheet, buffer: &mut [u8]) -> Answer
-    ensures { λ a. ⌜ a ≡ answerOf (outcomeOf q (length (now (buffer .entry)))) ⌝ }
-    ensures { λ _. ⌜ now (buffer .exit) ≡ bufferAfter (outcomeOf q (length (now (buffer .entry)))) (now (buffer .entry)) ⌝ }
+    ensures { λ a. ⌜ a ≡ answerIn (outcomeOf q) (now (buffer .entry)) ⌝ }
+    ensures { λ _. ⌜ now (buffer .exit) ≡ bufferIn (outcomeOf q) (now (buffer .entry)) ⌝ }
 {
     let verdict = questions::verdict_of(q);
     match verdict {
@@ -127,8 +127,8 @@ pub fn from_numbers(
     allow: u64,
     buffer: &mut [u8],
 ) -> Answer
-    ensures { λ a. ⌜ a ≡ answerOf (outcomeOf (sheetOf form h b1 b2 c r tnom t fyb gm0 rounds allow) (length (now (buffer .entry)))) ⌝ }
-    ensures { λ _. ⌜ now (buffer .exit) ≡ bufferAfter (outcomeOf (sheetOf form h b1 b2 c r tnom t fyb gm0 rounds allow) (length (now (buffer .entry)))) (now (buffer .entry)) ⌝ }
+    ensures { λ a. ⌜ a ≡ answerIn (outcomeOf (sheetOf form h b1 b2 c r tnom t fyb gm0 rounds allow)) (now (buffer .entry)) ⌝ }
+    ensures { λ _. ⌜ now (buffer .exit) ≡ bufferIn (outcomeOf (sheetOf form h b1 b2 c r tnom t fyb gm0 rounds allow)) (now (buffer .entry)) ⌝ }
 {
     let q = sheet_of(form, h, b1, b2, c, r, tnom, t, fyb, gm0, rounds, allow);
     write_sheet(q, buffer)
@@ -136,8 +136,8 @@ pub fn from_numbers(
 
 // The certificate of a sheet, into the buffer.
 pub fn write(sheet: &[u8], buffer: &mut [u8]) -> Answer
-    ensures { λ a. ⌜ a ≡ answerOf (outcome (now (sheet .entry)) (length (now (buffer .entry)))) ⌝ }
-    ensures { λ _. ⌜ now (buffer .exit) ≡ bufferAfter (outcome (now (sheet .entry)) (length (now (buffer .entry)))) (now (buffer .entry)) ⌝ }
+    ensures { λ a. ⌜ a ≡ answerIn (outcome (now (sheet .entry))) (now (buffer .entry)) ⌝ }
+    ensures { λ _. ⌜ now (buffer .exit) ≡ bufferIn (outcome (now (sheet .entry))) (now (buffer .entry)) ⌝ }
 {
     let lines = reading::read_lines(sheet, SHEET_LINES);
     let verdict = lines.verdict;

@@ -2,14 +2,13 @@
 use crate::Answer;
 use crate::certificates;
 ghost use mathlib.Core.Path.{_≡_};
-ghost use lib.ListN.{length};
 ghost use Rattle.certificate.specs.Questions.{sheetOf};
-ghost use Rattle.certificate.specs.Outcome.{outcomeOf, outcome, answerOf, bufferAfter, checked, checkAnswer};
+ghost use Rattle.certificate.specs.Outcome.{outcomeOf, outcome, answerIn, bufferIn, checked, checkAnswer};
 
 #[no_mangle]
 pub extern "C" fn certificate_write(sheet: &[u8], buffer: &mut [u8]) -> Answer
-    ensures { λ a. ⌜ a ≡ answerOf (outcome (now (sheet .entry)) (length (now (buffer .entry)))) ⌝ }
-    ensures { λ _. ⌜ now (buffer .exit) ≡ bufferAfter (outcome (now (sheet .entry)) (length (now (buffer .entry)))) (now (buffer .entry)) ⌝ }
+    ensures { λ a. ⌜ a ≡ answerIn (outcome (now (sheet .entry))) (now (buffer .entry)) ⌝ }
+    ensures { λ _. ⌜ now (buffer .exit) ≡ bufferIn (outcome (now (sheet .entry))) (now (buffer .entry)) ⌝ }
 {
     certificates::write(sheet, buffer)
 }
@@ -38,8 +37,8 @@ pub extern "C" fn certificate_from_numbers(
     allow: u64,
     buffer: &mut [u8],
 ) -> Answer
-    ensures { λ a. ⌜ a ≡ answerOf (outcomeOf (sheetOf form h b1 b2 c r tnom t fyb gm0 rounds allow) (length (now (buffer .entry)))) ⌝ }
-    ensures { λ _. ⌜ now (buffer .exit) ≡ bufferAfter (outcomeOf (sheetOf form h b1 b2 c r tnom t fyb gm0 rounds allow) (length (now (buffer .entry)))) (now (buffer .entry)) ⌝ }
+    ensures { λ a. ⌜ a ≡ answerIn (outcomeOf (sheetOf form h b1 b2 c r tnom t fyb gm0 rounds allow)) (now (buffer .entry)) ⌝ }
+    ensures { λ _. ⌜ now (buffer .exit) ≡ bufferIn (outcomeOf (sheetOf form h b1 b2 c r tnom t fyb gm0 rounds allow)) (now (buffer .entry)) ⌝ }
 {
     certificates::from_numbers(
         form,
