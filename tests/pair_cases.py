@@ -12,9 +12,10 @@ Writes crates/pair_cases/stdin and crates/pair_cases/stdout. With --check it wri
 with status 1 where the files differ from what it would write.
 """
 import math
-import os
 import random
 import sys
+
+from kept_files import in_lines, write_or_check
 
 WORD = 2**64
 MOST = WORD - 1
@@ -212,6 +213,7 @@ OPERATIONS = {
     'times_ratio': ('x', lambda p, a, b, s: exact_ratio(a, b, s) and words(times_ratio(p, a, b, s)), times_ratio),
     'over_ratio': ('y', lambda p, a, b, s: exact_ratio(a, b, s) and a > 0 and words(over_ratio(p, a, b, s)), over_ratio),
     'root': ('r', root_applies, root),
+    'roots': ('R', lambda p, q, s: root_applies(p, s) and root_applies(q, s), lambda p, q, s: root(p, s) + root(q, s)),
     'cube_root': ('c', cube_root_applies, cube_root),
     'of': ('F', anything, lambda p: p),
     'between': ('B', anything, minus),
@@ -228,7 +230,7 @@ OPERATIONS = {
 }
 
 # those that apply to pairs with ends in order only, and say so; to any other, pairs are given in order
-TEST_THE_ORDER = ('root', 'cube_root', 'signed_times', 'times_signed', 'signed_over')
+TEST_THE_ORDER = ('root', 'roots', 'cube_root', 'signed_times', 'times_signed', 'signed_over')
 
 cases = []
 expected = []
@@ -586,6 +588,21 @@ def random_signed():
         case('coarser', a, draw.choice((10000, 10000, 100000, 3, some_word())))
 
 
+def two_roots():
+    """Two roots at once: each of them small, whole, near a word's end and past it, or random."""
+    for s in SCALES:
+        values = [0, 1, 4000, 452929, 1000000, 23456789]
+        for bits in (32, 62, 64, 70):
+            values += near(2**bits // s)
+        for v in values:
+            for w in values:
+                case('roots', (v, v + draw.randint(0, 4)), (w, w + draw.randint(0, 4)), s)
+    for _ in range(RANDOM_CASES):
+        case('roots', some_pair(49), narrow(1, 5 * 10**13), draw.choice(SCALES))
+    case('roots', (3, 2), (2, 3), MILLION)
+    case('roots', (2, 3), (3, 2), MILLION)
+
+
 def all_cases():
     marked_cases()
     quotient_edges('floor_of')
@@ -605,6 +622,7 @@ def all_cases():
     random_pairs()
     random_ratios()
     random_signed()
+    two_roots()
 
 
 def both_ways():
@@ -619,21 +637,8 @@ def both_ways():
 def main():
     all_cases()
     both_ways()
-    folder = os.path.join(os.path.dirname(os.path.abspath(__file__)), '..', 'crates', 'pair_cases')
-    status = 0
-    for name, lines in (('stdin', cases), ('stdout', expected)):
-        path = os.path.join(folder, name)
-        text = ''.join(line + '\n' for line in lines)
-        if '--check' not in sys.argv[1:]:
-            with open(path, 'w', encoding='ascii') as f:
-                f.write(text)
-        else:
-            with open(path, encoding='ascii') as f:
-                if f.read() != text:
-                    print('crates/pair_cases/' + name + ' is not what tests/pair_cases.py writes')
-                    status = 1
     print(len(cases), 'cases')
-    return status
+    return write_or_check('pair_cases', in_lines(cases), in_lines(expected))
 
 
 if __name__ == '__main__':

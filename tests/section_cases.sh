@@ -12,7 +12,7 @@ sections() {
     cargo run --release --offline -q --manifest-path tests/reference/Cargo.toml --bin sections -- "$@"
 }
 
-sections "$made/inputs" "$made/results" 2>/dev/null
+sections "$made/inputs" "$made/results"
 sections --edges "$made/edges" "$made/answers"
 sections --intermediate "$made/pairs"
 cat "$made/inputs" "$made/edges" >"$made/stdin"

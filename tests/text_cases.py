@@ -10,10 +10,11 @@ or missing line, and line 13 (19 of a certificate) for bytes behind.
 Writes crates/text_cases/stdin and crates/text_cases/stdout. With --check it writes nothing, and exits
 with status 1 where the files differ from what it would write.
 """
-import os
 import random
 import re
 import sys
+
+from kept_files import in_lines, write_or_check
 
 SHEET = ('form', 'h', 'b1', 'b2', 'c', 'r', 'tnom', 't', 'fyb', 'gm0', 'rounds', 'allow')
 FIGURES = ('area', 'axial', 'chi1', 'chi2', 'shiftlo', 'shifthi')
@@ -87,6 +88,7 @@ def write(i, below, size):
 
 SHEET_A = ('C', 7200, 4200, 4200, 1600, 300, 200, 200, 235, 1000, 0, 0)
 SHEET_B = ('C', 20000, 7400, 6600, 2080, 300, 200, 196, 350, 1000, 1, 10)
+# Only the spelling is asked here: these figures need not follow from the sheets.
 FIGURES_A = (36000, 84600, 1000, 1000, 0, 0)
 FIGURES_B = (43840, 153440, 693, 749, -42, 142)
 
@@ -225,20 +227,8 @@ def main():
     all_cases()
     lines = {e.split(b'\n')[0] for e in expected}
     assert all(b'bad %d' % n in lines for n in range(1, 20)), 'each line is bad in some case'
-    folder = os.path.join(os.path.dirname(os.path.abspath(__file__)), '..', 'crates', 'text_cases')
-    status = 0
-    for name, data in (('stdin', ''.join(c + '\n' for c in cases).encode('ascii')), ('stdout', b''.join(expected))):
-        path = os.path.join(folder, name)
-        if '--check' not in sys.argv[1:]:
-            with open(path, 'wb') as f:
-                f.write(data)
-        else:
-            with open(path, 'rb') as f:
-                if f.read() != data:
-                    print('crates/text_cases/' + name + ' is not what tests/text_cases.py writes')
-                    status = 1
     print(len(cases), 'cases')
-    return status
+    return write_or_check('text_cases', in_lines(cases), b''.join(expected))
 
 
 if __name__ == '__main__':

@@ -6,7 +6,8 @@
 #include <stdio.h>
 #include <string.h>
 
-enum { PLACES = 5, SHEETS = 400, ROOM = 256, TURNS = 41 };
+// ROOM takes every certificate, as README.md tells callers to lend.
+enum { PLACES = 5, SHEETS = 400, ROOM = CERTIFICATE_LONGEST, TURNS = 41 };
 
 // ---- versions: the archive, and plain C with each way to take roots, at several places of the program
 
@@ -31,189 +32,211 @@ DECLARE_PLACES(bits)
 DECLARE_PLACES(doubles)
 DECLARE(reference, )
 
-static const Version versions[] = {PLACED(certificate), PLACED(newton), PLACED(bits), PLACED(doubles), ENTRY(reference, )};
+static const Version versions[] = {
+    PLACED(certificate), PLACED(newton), PLACED(bits), PLACED(doubles), ENTRY(reference, ),
+};
 
 enum { OURS, NEWTON, BITS, DOUBLES, REFERENCE, GROUPS, VERSIONS = REFERENCE * PLACES + 1 };
 
-static const char *const groups[GROUPS] = {"this program", "C, roots by Newton", "C, roots by bits", "C, roots of doubles", "reference"};
+static const char *const group_names[GROUPS] = {
+    "this program", "C, roots by Newton", "C, roots by bits", "C, roots of doubles", "reference",
+};
 
 // ---- sheets
 
-enum { FORM, H, B1, B2, C, R, TNOM, T, FYB, GM0, ROUNDS, ALLOW, NUMBERS };
+// The places of a sheet's numbers.
+enum { FORM, H, B1, B2, C, R, TNOM, T, FYB, GM0, ROUNDS, ALLOW };
 
-typedef struct { u64 n[NUMBERS]; } Sheet;
-
-static const u64 RANGES[NUMBERS][2] = {{0, 1},    {4000, 50000}, {2000, 20000}, {2000, 20000}, {500, 12000}, {0, 3000},
-                                       {50, 600}, {45, 600},     {200, 700},    {1000, 1500},  {0, 8},       {0, 1000}};
+typedef struct { u64 n[SHEET_LINES]; } Sheet;
 
 static const Sheet SHEET_B = {{0, 20000, 7400, 6600, 2080, 300, 200, 196, 350, 1000, 3, 10}};
 
 static u64 between(u64 least, u64 most) { return least + draw() % (most - least + 1); }
 
-static Sheet with(Sheet q, int i, u64 value) {
-    q.n[i] = value;
-    return q;
+static Sheet with(Sheet sheet, int place, u64 value) {
+    sheet.n[place] = value;
+    return sheet;
 }
 
-static Answer from_numbers(const Version *v, Sheet q, uint8_t *buffer, size_t room) {
-    const u64 *n = q.n;
+static Answer from_numbers(const Version *v, Sheet sheet, uint8_t *buffer, size_t room) {
+    const u64 *n = sheet.n;
     return v->from_numbers(n[0], n[1], n[2], n[3], n[4], n[5], n[6], n[7], n[8], n[9], n[10], n[11], buffer, room);
 }
 
-static u64 refusal_of(Sheet q) {
+static u64 refusal_of(Sheet sheet) {
     uint8_t buffer[ROOM];
-    return from_numbers(&versions[NEWTON * PLACES], q, buffer, ROOM).refusal;
+    return from_numbers(&versions[NEWTON * PLACES], sheet, buffer, ROOM).refusal;
 }
 
 // Each value anywhere in its range.
 static Sheet any_sheet(void) {
-    Sheet q;
-    for (int i = 0; i < NUMBERS; i++) q.n[i] = between(RANGES[i][0], RANGES[i][1]);
-    return q;
+    Sheet sheet;
+    for (int i = 0; i < SHEET_LINES; i++) sheet.n[i] = between(RANGES[i][0], RANGES[i][1]);
+    return sheet;
 }
 
-// One that meets questions 2 to 10, by rejection.
+// One that meets questions 2 to 10, by rejection: it is accepted, or refused by question 11.
 static Sheet sound_sheet(int equal_flanges) {
     for (;;) {
-        Sheet q = any_sheet();
-        if (equal_flanges) q.n[B2] = q.n[B1];
-        if (refusal_of(q) % 11 == 0) return q;
+        Sheet sheet = any_sheet();
+        if (equal_flanges) sheet.n[B2] = sheet.n[B1];
+        u64 refusal = refusal_of(sheet);
+        if (refusal == 0 || refusal == 11) return sheet;
     }
 }
+
+static int accepted(Sheet sheet, u64 rounds) { return refusal_of(with(sheet, ROUNDS, rounds)) == 0; }
 
 // One that is accepted with an allowance of 10 mm², whether its rounds are 0, 3 or 8.
 static Sheet accepted_sheet(int equal_flanges) {
     for (;;) {
-        Sheet q = with(sound_sheet(equal_flanges), ALLOW, 1000);
-        if (refusal_of(with(q, ROUNDS, 0)) + refusal_of(with(q, ROUNDS, 3)) + refusal_of(with(q, ROUNDS, 8)) == 0) return q;
+        Sheet sheet = with(sound_sheet(equal_flanges), ALLOW, 1000);
+        if (accepted(sheet, 0) && accepted(sheet, 3) && accepted(sheet, 8)) return sheet;
     }
 }
 
 // Thin, with flanges and lips up to just past what questions 4 to 9 leave them.
 static Sheet thin_sheet(void) {
-    Sheet q = any_sheet();
-    q.n[T] = between(45, 120);
-    q.n[TNOM] = between(q.n[T], 180);
-    q.n[B1] = between(2000, 60 * q.n[T] + 100);
-    q.n[B2] = draw() % 2 ? q.n[B1] : between(q.n[B1] - 100, q.n[B1] + 100);
-    q.n[C] = between(q.n[B1] / 5, q.n[B1] * 3 / 5 + 5);
-    q.n[R] = between(0, 5 * q.n[T] / 2);
-    return q;
+    Sheet sheet = any_sheet();
+    u64 *n = sheet.n;
+    n[T] = between(45, 120);
+    n[TNOM] = between(n[T], 180);
+    n[B1] = between(2000, 60 * n[T] + 100);
+    n[B2] = draw() % 2 ? n[B1] : between(n[B1] - 100, n[B1] + 100);
+    n[C] = between(n[B1] / 5, n[B1] * 3 / 5 + 5);
+    n[R] = between(0, 5 * n[T] / 2);
+    return sheet;
 }
 
 // With another value of one line.
-static Sheet one_moved(Sheet q) {
-    int i = (int)(draw() % NUMBERS);
-    return with(q, i, between(RANGES[i][0], RANGES[i][1]));
+static Sheet one_moved(Sheet sheet) {
+    int i = (int)(draw() % SHEET_LINES);
+    return with(sheet, i, between(RANGES[i][0], RANGES[i][1]));
 }
 
-// A value of line i + 1 that is out of its range.
-static Sheet out_of_range(Sheet q, int i) {
+// With a value of line i + 1 that is out of its range.
+static Sheet out_of_range(Sheet sheet, int i) {
     u64 above[] = {RANGES[i][1] + 1, RANGES[i][1] + between(1, 100000), UINT64_MAX - between(0, 9)};
-    return with(q, i, RANGES[i][0] && draw() % 2 ? between(0, RANGES[i][0] - 1) : above[draw() % 3]);
+    return with(sheet, i, RANGES[i][0] && draw() % 2 ? between(0, RANGES[i][0] - 1) : above[draw() % 3]);
 }
 
 // ---- agreement
 
+// A text has room for a byte more than a certificate, which damage may put in.
 typedef struct {
-    uint8_t bytes[ROOM];
+    uint8_t bytes[ROOM + 1];
     size_t length;
 } Text;
 
-static u64 told[14];
+static u64 refusals[14];
 static u64 compared;
 
-static void differ(const Version *v, const Sheet *q, const Text *t) {
+static void differ(const Version *v, const Sheet *sheet, const Text *text) {
     printf("%s differs from %s on\n", v->name, versions[0].name);
-    for (int i = 0; q && i < NUMBERS; i++) printf("%llu ", (unsigned long long)q->n[i]);
-    if (t) fwrite(t->bytes, 1, t->length, stdout);
+    for (int i = 0; sheet && i < SHEET_LINES; i++) printf("%llu ", (unsigned long long)sheet->n[i]);
+    if (text) fwrite(text->bytes, 1, text->length, stdout);
     printf("\n");
     exit(1);
 }
 
-// Calls every version on a sheet, or on a text, or on a certificate (no room is lent).
-static Answer agreed(const Sheet *q, const Text *t, int lent, size_t room, uint8_t *kept) {
+typedef enum { FROM_NUMBERS, WRITE, CHECK } Call;
+
+// On the sheet where the call takes numbers, else on the text.
+static Answer called(const Version *v, Call call, const Sheet *sheet, const Text *text, uint8_t *buffer, size_t room) {
+    return call == FROM_NUMBERS ? from_numbers(v, *sheet, buffer, room)
+           : call == WRITE      ? v->write(text->bytes, text->length, buffer, room)
+                                : v->check(text->bytes, text->length);
+}
+
+// Makes the call of every version; what the first has written is kept.
+static Answer agreed(Call call, const Sheet *sheet, const Text *text, size_t room, uint8_t kept[ROOM]) {
     Answer first;
     for (int v = 0; v < VERSIONS; v++) {
         uint8_t buffer[ROOM];
         for (int i = 0; i < ROOM; i++) buffer[i] = (uint8_t)(i * 37 + 11);
-        Answer a = q      ? from_numbers(&versions[v], *q, buffer, room)
-                   : lent ? versions[v].write(t->bytes, t->length, buffer, room)
-                          : versions[v].check(t->bytes, t->length);
+        Answer answer = called(&versions[v], call, sheet, text, buffer, room);
         if (v == 0) {
-            first = a;
+            first = answer;
             memcpy(kept, buffer, ROOM);
-        } else if (memcmp(&a, &first, sizeof a) || memcmp(buffer, kept, ROOM)) {
-            differ(&versions[v], q, t);
+        } else if (memcmp(&answer, &first, sizeof answer) || memcmp(buffer, kept, ROOM)) {
+            differ(&versions[v], sheet, text);
         }
     }
     compared++;
-    told[first.refusal]++;
+    refusals[first.refusal]++;
     return first;
 }
 
-static Answer agreed_numbers(Sheet q, size_t room, uint8_t *kept) { return agreed(&q, 0, 1, room, kept); }
+static void agree_on_numbers(Sheet sheet, size_t room) {
+    uint8_t kept[ROOM];
+    agreed(FROM_NUMBERS, &sheet, 0, room, kept);
+}
 
-static Text certificate_of(Sheet q) {
-    Text t;
-    t.length = agreed_numbers(q, ROOM, t.bytes).length;
-    return t;
+static void agree_on_text(Call call, Text text, size_t room) {
+    uint8_t kept[ROOM];
+    agreed(call, 0, &text, room, kept);
+}
+
+static Text certificate_of(Sheet sheet) {
+    Text text;
+    text.length = agreed(FROM_NUMBERS, &sheet, 0, ROOM, text.bytes).length;
+    return text;
 }
 
 // A sheet's text is a certificate's first twelve lines.
-static Text sheet_text(Sheet q) {
-    Text t = certificate_of(q);
+static Text sheet_text(Sheet sheet) {
+    Text text = certificate_of(sheet);
     int lines = 0;
-    for (t.length = 0; lines < NUMBERS; t.length++) lines += t.bytes[t.length] == '\n';
-    return t;
+    for (text.length = 0; lines < SHEET_LINES; text.length++) lines += text.bytes[text.length] == '\n';
+    return text;
 }
 
 // One byte changed, left out or put in.
-static Text damaged(Text t) {
+static Text damaged(Text text) {
     static const char bytes[] = "0123456789-=\nCZah12f ";
-    size_t at = draw() % t.length;
+    size_t at = draw() % text.length;
     char byte = bytes[draw() % (sizeof bytes - 1)];
-    u64 sort = draw() % 4;
-    if (sort == 0) memmove(t.bytes + at, t.bytes + at + 1, --t.length - at);
-    if (sort == 1) memmove(t.bytes + at + 1, t.bytes + at, t.length++ - at);
-    if (sort != 0) t.bytes[at] = (uint8_t)byte;
-    return t;
+    u64 damage = draw() % 4;
+    if (damage == 0) memmove(text.bytes + at, text.bytes + at + 1, --text.length - at);
+    if (damage == 1) memmove(text.bytes + at + 1, text.bytes + at, text.length++ - at);
+    if (damage != 0) text.bytes[at] = (uint8_t)byte;
+    return text;
 }
 
 static void agree(void) {
-    uint8_t kept[ROOM];
     static const u64 allowances[] = {0, 1, 10, 100, 1000};
-    for (int i = 0; i < 2000; i++) agreed_numbers(any_sheet(), ROOM, kept);
-    for (int i = 0; i < 2000; i++) agreed_numbers(thin_sheet(), ROOM, kept);
-    for (int i = 0; i < 2000; i++) agreed_numbers(one_moved(sound_sheet(i % 2)), ROOM, kept);
-    for (int i = 0; i < 2000; i++) agreed_numbers(out_of_range(any_sheet(), (int)(draw() % NUMBERS)), ROOM, kept);
-    for (int i = 0; i < 4000; i++) agreed_numbers(with(sound_sheet(i % 2), ALLOW, allowances[draw() % 5]), between(0, ROOM), kept);
+    for (int i = 0; i < 2000; i++) agree_on_numbers(any_sheet(), ROOM);
+    for (int i = 0; i < 2000; i++) agree_on_numbers(thin_sheet(), ROOM);
+    for (int i = 0; i < 2000; i++) agree_on_numbers(one_moved(sound_sheet(i % 2)), ROOM);
+    for (int i = 0; i < 2000; i++) agree_on_numbers(out_of_range(any_sheet(), (int)(draw() % SHEET_LINES)), ROOM);
+    for (int i = 0; i < 4000; i++) {
+        Sheet sheet = with(sound_sheet(i % 2), ALLOW, allowances[draw() % 5]);
+        agree_on_numbers(sheet, between(0, ROOM));
+    }
     for (int i = 0; i < 2000; i++) {
-        Sheet q = accepted_sheet(i % 2);
-        Text certificate = certificate_of(q), sheet = sheet_text(q), bad;
-        agreed(0, &certificate, 0, 0, kept);
-        agreed(0, &sheet, 1, between(0, ROOM), kept);
-        bad = damaged(certificate);
-        agreed(0, &bad, 0, 0, kept);
-        bad = damaged(sheet);
-        agreed(0, &bad, 1, ROOM, kept);
+        Sheet sheet = accepted_sheet(i % 2);
+        Text certificate = certificate_of(sheet), text = sheet_text(sheet);
+        agree_on_text(CHECK, certificate, 0);
+        agree_on_text(WRITE, text, between(0, ROOM));
+        agree_on_text(CHECK, damaged(certificate), 0);
+        agree_on_text(WRITE, damaged(text), ROOM);
     }
     printf("The same answers and buffers of all versions in %llu calls; refusals", (unsigned long long)compared);
-    for (int i = 1; i < 14; i++) printf(" %d: %llu", i, (unsigned long long)told[i]);
-    printf("; accepted or passed: %llu.\n\n", (unsigned long long)told[0]);
+    for (int i = 1; i < 14; i++) printf(" %d: %llu", i, (unsigned long long)refusals[i]);
+    printf("; accepted or passed: %llu.\n\n", (unsigned long long)refusals[0]);
 }
 
 // ---- times
 
-enum { FROM_NUMBERS, WRITE, CHECK };
-
 typedef struct {
     const char *name;
-    int call, count;
+    Call call;
+    int count;
     Sheet sheets[SHEETS];
     Text texts[SHEETS];
 } Work;
 
+// Takes a sum of the answers, so that the compiler leaves no call out.
 static volatile u64 sink;
 
 // One pass over the sheets. The lent buffer is one and the same, as the call before left it.
@@ -221,10 +244,8 @@ static void pass(const Version *v, const Work *w) {
     static uint8_t buffer[ROOM];
     u64 sum = 0;
     for (int i = 0; i < w->count; i++) {
-        Answer a = w->call == FROM_NUMBERS ? from_numbers(v, w->sheets[i], buffer, ROOM)
-                   : w->call == WRITE      ? v->write(w->texts[i].bytes, w->texts[i].length, buffer, ROOM)
-                                           : v->check(w->texts[i].bytes, w->texts[i].length);
-        sum += a.length + a.line;
+        Answer answer = called(v, w->call, &w->sheets[i], &w->texts[i], buffer, ROOM);
+        sum += answer.length + answer.line;
     }
     sink = sum;
 }
@@ -250,12 +271,13 @@ static double median(const double *values, int count) {
 
 typedef struct { double ns[GROUPS]; } Times;
 
-// The median over the places of a group, in one turn or in their medians.
+// The median over the places of a group; the values are those of one turn, or the versions' medians.
 static double over_places(const double *values, int group) {
     return median(values + group * PLACES, group == REFERENCE ? 1 : PLACES);
 }
 
-static void say(const double *values, int group) {
+// A group's median, and the least and the most of its places.
+static void print_group(const double *values, int group) {
     double least = values[group * PLACES], most = least;
     for (int i = 1; i < PLACES && group != REFERENCE; i++) {
         double ns = values[group * PLACES + i];
@@ -266,6 +288,8 @@ static void say(const double *values, int group) {
     if (group != REFERENCE) printf(" (%5.0f-%5.0f)", least, most);
 }
 
+// Times every version, prints the row, and returns each group's median. A turn goes through the versions
+// forward, the next one backward.
 static Times measure(const Work *w) {
     static double ns[VERSIONS][TURNS];
     double ratios[GROUPS][TURNS], typical[VERSIONS];
@@ -284,7 +308,7 @@ static Times measure(const Work *w) {
     printf("%-23s", w->name);
     for (int g = 0; g < GROUPS; g++) {
         t.ns[g] = over_places(typical, g);
-        say(typical, g);
+        print_group(typical, g);
         if (g != OURS) printf(" %5.*f", g == REFERENCE ? 3 : 2, median(ratios[g], TURNS));
     }
     printf("\n");
@@ -294,7 +318,7 @@ static Times measure(const Work *w) {
 
 static Sheet sheets[SHEETS];
 
-static Work *numbers(const char *name, u64 rounds, u64 allow) {
+static Work *on_numbers(const char *name, u64 rounds, u64 allow) {
     static Work w;
     w.name = name;
     w.call = FROM_NUMBERS;
@@ -303,65 +327,71 @@ static Work *numbers(const char *name, u64 rounds, u64 allow) {
     return &w;
 }
 
-static Work *texts(const char *name, int call) {
-    Work *w = numbers(name, 3, 1000);
+static Work *on_texts(const char *name, Call call) {
+    Work *w = on_numbers(name, 3, 1000);
     w->call = call;
-    for (int i = 0; i < SHEETS; i++) w->texts[i] = call == CHECK ? certificate_of(w->sheets[i]) : sheet_text(w->sheets[i]);
+    for (int i = 0; i < SHEETS; i++) {
+        Sheet sheet = w->sheets[i];
+        w->texts[i] = call == CHECK ? certificate_of(sheet) : sheet_text(sheet);
+    }
     return w;
 }
 
 // Every line in its turn is out of range.
-static Work *early(const char *name) {
-    Work *w = numbers(name, 3, 1000);
-    for (int i = 0; i < SHEETS; i++) w->sheets[i] = out_of_range(w->sheets[i], i % NUMBERS);
+static Work *refused_at_question_2(const char *name) {
+    Work *w = on_numbers(name, 3, 1000);
+    for (int i = 0; i < SHEETS; i++) w->sheets[i] = out_of_range(w->sheets[i], i % SHEET_LINES);
     return w;
 }
 
 // With no allowance: those that are refused for it.
-static Work *late(const char *name) {
-    Work *w = numbers(name, 3, 0);
+static Work *refused_at_question_11(const char *name) {
+    Work *w = on_numbers(name, 3, 0);
     w->count = 0;
     for (int i = 0; i < SHEETS; i++)
         if (refusal_of(w->sheets[i]) == 11) w->sheets[w->count++] = w->sheets[i];
     return w;
 }
 
-static Work *alone(const char *name) {
-    Work *w = numbers(name, 3, 1000);
+static Work *sheet_b_alone(const char *name) {
+    Work *w = on_numbers(name, 3, 1000);
     w->count = 1;
     w->sheets[0] = SHEET_B;
     return w;
 }
 
 static void times(void) {
-    printf("%d accepted sheets over the whole ranges, both forms, half of them with equal flanges. One buffer is lent to all\n"
-           "calls and not cleared between them. ns for one call: the median of %d interleaved turns, then of %d places of the\n"
-           "code in memory, with the least and the most; behind it the ratio of this program to that version.\n\n",
-           SHEETS, TURNS, PLACES);
-    printf("%-23s%21s", "", groups[OURS]);
-    for (int g = NEWTON; g < REFERENCE; g++) printf("%21s ratio", groups[g]);
+    printf("%d accepted sheets over the whole ranges, both forms, half of them with equal flanges. One buffer of %d bytes is\n"
+           "lent to all calls and not cleared between them. ns for one call: the median of %d interleaved turns, then of %d\n"
+           "places of the code in memory, with the least and the most; behind it the ratio of this program to that version.\n\n",
+           SHEETS, ROOM, TURNS, PLACES);
+    printf("%-23s%21s", "", group_names[OURS]);
+    for (int g = NEWTON; g < REFERENCE; g++) printf("%21s ratio", group_names[g]);
     printf("  refer. ratio\n");
-    Times none = measure(numbers("rounds=0", 0, 1000));
-    Times three = measure(numbers("rounds=3", 3, 1000));
-    Times eight = measure(numbers("rounds=8", 8, 1000));
-    measure(alone("sheet B alone, rounds=3"));
-    measure(texts("from text, rounds=3", WRITE));
-    measure(texts("check, rounds=3", CHECK));
-    measure(early("refusal at question 2"));
-    measure(late("refusal at question 11"));
+    Times none = measure(on_numbers("rounds=0", 0, 1000));
+    Times three = measure(on_numbers("rounds=3", 3, 1000));
+    Times eight = measure(on_numbers("rounds=8", 8, 1000));
+    measure(sheet_b_alone("sheet B alone, rounds=3"));
+    measure(on_texts("from text, rounds=3", WRITE));
+    measure(on_texts("check, rounds=3", CHECK));
+    measure(refused_at_question_2("refusal at question 2"));
+    measure(refused_at_question_11("refusal at question 11"));
     printf("\nns for a refining round, from 0 to 8 (from 0 to 3):");
     for (int g = 0; g < GROUPS; g++)
-        printf("%s %s %.0f (%.0f)", g ? ";" : "", groups[g], (eight.ns[g] - none.ns[g]) / 8, (three.ns[g] - none.ns[g]) / 3);
+        printf("%s %s %.0f (%.0f)", g ? ";" : "", group_names[g], (eight.ns[g] - none.ns[g]) / 8,
+               (three.ns[g] - none.ns[g]) / 3);
     printf("\n");
 }
 
 // For a profile: certificates with 3 rounds by one version alone.
 static void repeat(const char *name, int passes) {
-    Work *w = numbers(name, 3, 1000);
+    Work *w = on_numbers(name, 3, 1000);
     for (int v = 0; v < VERSIONS; v++)
         if (strcmp(versions[v].name, name) == 0) printf("%s: %.0f ns\n", name, timed(&versions[v], w, passes));
 }
 
+// certificates                  agreement, then the table of times
+// certificates VERSION PASSES   one version alone, as certificate_0
 int main(int count, char **words) {
     for (int i = 0; i < SHEETS; i++) sheets[i] = accepted_sheet(i % 2);
     if (count == 3) {

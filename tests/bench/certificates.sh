@@ -10,7 +10,7 @@ mkdir -p $made
 
 rt staticlib certificate | tail -1
 cargo build --release --offline -q --manifest-path $here/reference/Cargo.toml --target-dir $made/reference
-compile="cc -O2 -Wall -Wextra -Werror"
+compile="cc -O2 -Wall -Wextra -Werror -Iinclude"
 $compile -c -o $made/newton.o $here/plain.c
 $compile -DROOTS_BY_BITS -c -o $made/bits.o $here/plain.c
 $compile -DROOTS_OF_DOUBLES -c -o $made/doubles.o $here/plain.c

@@ -54,6 +54,7 @@ static void fill(Ends *p, double least, double most) {
 // ---- timing
 
 static u64 scale = 1000000;
+// Takes a sum of the results, so that the compiler leaves no operation out.
 static volatile u64 sink;
 
 // The best of some tries, in ns for one operation. `wait` is what the next operand takes from the
@@ -77,54 +78,49 @@ static volatile u64 sink;
         best;                                                          \
     })
 
+// So that both ends are waited for.
 static inline u64 both(Ends e) { return e.lo | e.hi; }
-static inline u64 word(u64 v) { return v; }
 
 static void differ(const char *name, int i) {
     printf("%s: the two differ at operand %d\n", name, i);
     exit(1);
 }
 
-#define AGREE(NAME, A, B)                                        \
-    for (int i = 0; i < N; i++) {                                \
-        u64 wait = 0;                                            \
-        Ends a = A, b = B;                                       \
-        if (a.lo != b.lo || a.hi != b.hi) differ(NAME, i);       \
-    }
-
-static void say(const char *name, double c, double pair, double c_chain, double pair_chain) {
-    printf("%-34s %7.2f %7.2f %6.2f   %7.2f %7.2f %6.2f\n", name, c, pair, pair / c, c_chain, pair_chain, pair_chain / c_chain);
+static void print_row(const char *name, double c, double pair, double c_chain, double pair_chain) {
+    printf("%-34s %7.2f %7.2f %6.2f   %7.2f %7.2f %6.2f\n", name, c, pair, pair / c, c_chain, pair_chain,
+           pair_chain / c_chain);
 }
 
-#define ENDS(F, ...) F(o->p[i].lo + wait, o->p[i].hi + wait, __VA_ARGS__)
-#define RUN(NAME, C, PAIR, ...)                                                                           \
-    do {                                                                                                  \
-        AGREE(NAME, ENDS(C, __VA_ARGS__), ENDS(PAIR, __VA_ARGS__));                                       \
-        double a = TIME(0, both(ENDS(C, __VA_ARGS__))), b = TIME(0, both(ENDS(PAIR, __VA_ARGS__)));       \
-        double c = TIME(1, both(ENDS(C, __VA_ARGS__))), d = TIME(1, both(ENDS(PAIR, __VA_ARGS__)));       \
-        say(NAME, a, b, c, d);                                                                            \
+// One row: the ends that C and PAIR give must agree on every operand, then both are timed.
+#define ROW(NAME, C, PAIR)                                              \
+    do {                                                                \
+        for (int i = 0; i < N; i++) {                                   \
+            u64 wait = 0;                                               \
+            Ends a = C, b = PAIR;                                       \
+            if (a.lo != b.lo || a.hi != b.hi) differ(NAME, i);          \
+        }                                                               \
+        double c = TIME(0, both(C)), pair = TIME(0, both(PAIR));        \
+        double c_chain = TIME(1, both(C)), pair_chain = TIME(1, both(PAIR)); \
+        print_row(NAME, c, pair, c_chain, pair_chain);                  \
     } while (0)
 
-#define ONE(F, A, B, D) ((Ends){F(A, B, D), 0})
-#define RUN_WORD(NAME, C, PAIR, A, B, D)                                                    \
-    do {                                                                                    \
-        AGREE(NAME, ONE(C, A + wait, B, D), ONE(PAIR, A + wait, B, D));                     \
-        double a = TIME(0, word(C(A + wait, B, D))), b = TIME(0, word(PAIR(A + wait, B, D))); \
-        double c = TIME(1, word(C(A + wait, B, D))), d = TIME(1, word(PAIR(A + wait, B, D))); \
-        say(NAME, a, b, c, d);                                                              \
-    } while (0)
+// An operation on the pair o->p[i] and more, and one on the words A, B and D.
+#define ON_PAIR(F, ...) F(o->p[i].lo + wait, o->p[i].hi + wait, __VA_ARGS__)
+#define RUN(NAME, C, PAIR, ...) ROW(NAME, ON_PAIR(C, __VA_ARGS__), ON_PAIR(PAIR, __VA_ARGS__))
+#define ON_WORDS(F, A, B, D) ((Ends){F((A) + wait, B, D), 0})
+#define RUN_WORDS(NAME, C, PAIR, A, B, D) ROW(NAME, ON_WORDS(C, A, B, D), ON_WORDS(PAIR, A, B, D))
 
 static Operands lengths, large, larger;
 
 static void run(Operands *o, const char *floor_name, const char *ceil_name, const char *times_name) {
-    RUN_WORD(floor_name, c_floor_of, pair_floor_of, o->p[i].lo, o->q[i].lo, scale);
-    RUN_WORD(ceil_name, c_ceil_of, pair_ceil_of, o->p[i].lo, o->q[i].lo, scale);
+    RUN_WORDS(floor_name, c_floor_of, pair_floor_of, o->p[i].lo, o->q[i].lo, scale);
+    RUN_WORDS(ceil_name, c_ceil_of, pair_ceil_of, o->p[i].lo, o->q[i].lo, scale);
     RUN(times_name, c_times, pair_times, o->q[i].lo, o->q[i].hi, scale);
 }
 
 int main(void) {
-    // units of 1/scale mm: 0.05 to 500 mm, whose products stay within 64 bits; those by 4e10 to
-    // 4e12 units (areas, section moduli) and the quotients of 2e13 to 1e15 units pass them
+    // In units of 1/scale mm. Lengths of 0.05 to 500 mm have products within 64 bits; products by 4e10
+    // to 4e12 units (areas, section moduli) and quotients of 2e13 to 1e15 units pass 64 bits.
     fill(lengths.p, 5e4, 5e8);
     fill(lengths.q, 5e4, 5e8);
     fill(large.p, 4e10, 4e12);

@@ -8,12 +8,14 @@ typedef int64_t i64;
 
 #define S 1000000u
 
-enum { SHEET_LINES = 12, LINES = 18, LONGEST = 400 };
+// From place SHIFTS on, a value may be below zero.
+enum { LINES = 18, SHIFTS = 16 };
 
 typedef struct { u64 form, h, b1, b2, c, r, tnom, t, fyb, gm0, rounds, allow; } Sheet;
 typedef struct { u64 area, axial, chi1, chi2; i64 shiftlo, shifthi; } Figures;
 
 static Answer refused(u64 number, u64 line) { return (Answer){number, line, 0}; }
+static Answer in_order(size_t length) { return (Answer){0, 0, length}; }
 
 // ---- pairs
 
@@ -47,11 +49,13 @@ static inline SignedEnds signed_minus(SignedEnds a, SignedEnds b) { return (Sign
 
 // By a pair that has nothing below zero.
 static inline SignedEnds signed_times(SignedEnds a, Ends p) {
-    return (SignedEnds){signed_down((i128)a.lo * (a.lo < 0 ? p.hi : p.lo), S), signed_up((i128)a.hi * (a.hi < 0 ? p.lo : p.hi), S)};
+    return (SignedEnds){signed_down((i128)a.lo * (a.lo < 0 ? p.hi : p.lo), S),
+                        signed_up((i128)a.hi * (a.hi < 0 ? p.lo : p.hi), S)};
 }
 
 static inline SignedEnds signed_over(SignedEnds a, Ends p) {
-    return (SignedEnds){signed_down((i128)a.lo * S, (i64)(a.lo < 0 ? p.lo : p.hi)), signed_up((i128)a.hi * S, (i64)(a.hi < 0 ? p.hi : p.lo))};
+    return (SignedEnds){signed_down((i128)a.lo * S, (i64)(a.lo < 0 ? p.lo : p.hi)),
+                        signed_up((i128)a.hi * S, (i64)(a.hi < 0 ? p.hi : p.lo))};
 }
 
 // ---- widths and slenderness
@@ -61,7 +65,7 @@ static Ends slenderness_squared(Ends w, Ends t, Ends fyb, Ends k) {
     return over(over(times(times(ratio, ratio), fyb), exact(1895416, 10)), k);
 }
 
-// rho at the ends: it falls, so its lower end comes from the upper end.
+// rho falls with u: its lower end comes from the upper end of u.
 static Ends share(Ends u, u64 limit, u64 less) {
     Ends rho = {S, S};
     if (u.hi > limit) rho.lo = smaller(S, quotient_down((u128)(u.hi - less) * S * S, u.hi * u.hi));
@@ -110,38 +114,38 @@ static Ends factor(Ends ud) {
 }
 
 // be2, c_eff, a and g, from u^2 of flange and lip.
-static void widths(const Section *x, Stiffener *s, Ends bp, Ends plane, Ends lip) {
+static void widths(const Section *section, Stiffener *s, Ends bp, Ends plane, Ends lip) {
     s->be2 = half_kept(plane_share(plane), bp);
-    s->c = times(lip_share(lip), x->cp);
+    s->c = times(lip_share(lip), section->cp);
     s->a = plus(s->be2, s->c);
     s->g = minus(bp, over(times(s->be2, s->be2), times(whole(2), s->a)));
 }
 
-static Ends thickness_factor(const Section *x, const Stiffener *s, Ends o, Ends kf) {
+static Ends thickness_factor(const Section *section, const Stiffener *s, Ends o, Ends kf) {
     Ends cube = times(times(s->c, s->c), s->c);
-    Ends flat = over(times(times(s->be2, x->t), x->t), whole(12));
+    Ends flat = over(times(times(s->be2, section->t), section->t), whole(12));
     Ends far = over(times(cube, s->be2), times(whole(4), s->a));
     Ends j = plus(plus(flat, over(cube, whole(12))), far);
-    Ends load = over(over(times(x->fyb, s->a), x->t), whole(210));
+    Ends load = over(over(times(section->fyb, s->a), section->t), whole(210));
     Ends square = times(s->g, s->g);
-    Ends cross = times(times(times(times(exact(1, 2), s->g), o), x->hp), kf);
-    Ends d = plus(plus(times(square, x->hp), times(square, s->g)), cross);
+    Ends cross = times(times(times(times(exact(1, 2), s->g), o), section->hp), kf);
+    Ends d = plus(plus(times(square, section->hp), times(square, s->g)), cross);
     Ends product = times(times(over(d, j), load), load);
     return factor(root(root(over(times(product, exact(91, 100)), whole(1000000)))));
 }
 
-static void factors(const Section *x, Stiffener s[2]) {
+static void factors(const Section *section, Stiffener s[2]) {
     Ends kf = over(s[1].a, s[0].a);
-    s[0].chi = thickness_factor(x, &s[0], s[1].g, kf);
-    s[1].chi = thickness_factor(x, &s[1], s[0].g, kf);
+    s[0].chi = thickness_factor(section, &s[0], s[1].g, kf);
+    s[1].chi = thickness_factor(section, &s[1], s[0].g, kf);
 }
 
-static void refine(const Section *x, Stiffener s[2]) {
+static void refine(const Section *section, Stiffener s[2]) {
     for (int i = 0; i < 2; i++) {
-        const Flange *f = &x->flange[i];
-        widths(x, &s[i], f->bp, times(f->plane, s[i].chi), times(f->lip, s[i].chi));
+        const Flange *f = &section->flange[i];
+        widths(section, &s[i], f->bp, times(f->plane, s[i].chi), times(f->lip, s[i].chi));
     }
-    factors(x, s);
+    factors(section, s);
 }
 
 // ---- area, resistance, shift
@@ -164,97 +168,97 @@ static SignedEnds axis(const Kept *k, Ends hp, Ends length) {
     return signed_over(sum, length);
 }
 
-static void flange_of(Section *x, int i, u64 b, Ends tnom) {
-    Flange *f = &x->flange[i];
+static void flange_of(Section *section, int i, u64 b, Ends tnom) {
+    Flange *f = &section->flange[i];
     f->bp = minus(exact(b, 100), tnom);
-    f->plane = slenderness_squared(f->bp, x->t, x->fyb, whole(4));
-    f->lip = slenderness_squared(x->cp, x->t, x->fyb, coefficient(over(x->cp, f->bp)));
+    f->plane = slenderness_squared(f->bp, section->t, section->fyb, whole(4));
+    f->lip = slenderness_squared(section->cp, section->t, section->fyb, coefficient(over(section->cp, f->bp)));
 }
 
-static Kept effective(const Section *x, u64 rounds) {
+static Kept effective(const Section *section, u64 rounds) {
     Kept k;
     Stiffener s[2];
     for (int i = 0; i < 2; i++) {
-        widths(x, &s[i], x->flange[i].bp, x->flange[i].plane, x->flange[i].lip);
+        widths(section, &s[i], section->flange[i].bp, section->flange[i].plane, section->flange[i].lip);
         k.be1[i] = s[i].be2;
     }
-    factors(x, s);
-    for (u64 n = 0; n < rounds; n++) refine(x, s);
+    factors(section, s);
+    for (u64 n = 0; n < rounds; n++) refine(section, s);
     for (int i = 0; i < 2; i++) {
         k.be2[i] = s[i].be2;
         k.c[i] = s[i].c;
         k.a[i] = s[i].a;
         k.chi[i] = s[i].chi;
     }
-    k.he = half_kept(plane_share(slenderness_squared(x->hp, x->t, x->fyb, whole(4))), x->hp);
+    k.he = half_kept(plane_share(slenderness_squared(section->hp, section->t, section->fyb, whole(4))), section->hp);
     return k;
 }
 
-static Kept gross(const Section *x) {
+static Kept gross(const Section *section) {
     Kept k;
     for (int i = 0; i < 2; i++) {
-        k.be1[i] = k.be2[i] = over(x->flange[i].bp, whole(2));
-        k.c[i] = x->cp;
+        k.be1[i] = k.be2[i] = over(section->flange[i].bp, whole(2));
+        k.c[i] = section->cp;
         k.a[i] = plus(k.be2[i], k.c[i]);
         k.chi[i] = whole(1);
     }
-    k.he = over(x->hp, whole(2));
+    k.he = over(section->hp, whole(2));
     return k;
 }
 
 // The figures, and whether they meet question 11.
-static int work(const Sheet *q, Figures *f) {
-    Section x;
-    Ends tnom = exact(q->tnom, 100);
-    x.hp = minus(exact(q->h, 100), tnom);
-    x.cp = minus(exact(q->c, 100), over(tnom, whole(2)));
-    x.t = exact(q->t, 100);
-    x.fyb = whole(q->fyb);
-    flange_of(&x, 0, q->b1, tnom);
-    flange_of(&x, 1, q->b2, tnom);
-    Kept kept = effective(&x, q->rounds), all = gross(&x);
+static int work(const Sheet *sheet, Figures *f) {
+    Section section;
+    Ends tnom = exact(sheet->tnom, 100);
+    section.hp = minus(exact(sheet->h, 100), tnom);
+    section.cp = minus(exact(sheet->c, 100), over(tnom, whole(2)));
+    section.t = exact(sheet->t, 100);
+    section.fyb = whole(sheet->fyb);
+    flange_of(&section, 0, sheet->b1, tnom);
+    flange_of(&section, 1, sheet->b2, tnom);
+    Kept kept = effective(&section, sheet->rounds), all = gross(&section);
     Ends length = length_of(&kept);
-    Ends area = times(x.t, length);
-    SignedEnds shift = signed_minus(axis(&kept, x.hp, length), axis(&all, x.hp, length_of(&all)));
+    Ends area = times(section.t, length);
+    SignedEnds shift = signed_minus(axis(&kept, section.hp, length), axis(&all, section.hp, length_of(&all)));
     f->area = area.lo * 100 / S;
-    f->axial = area.lo * q->fyb * 1000 / (q->gm0 * S);
+    f->axial = area.lo * sheet->fyb * 1000 / (sheet->gm0 * S);
     f->chi1 = kept.chi[0].lo * 1000 / S;
     f->chi2 = kept.chi[1].lo * 1000 / S;
     f->shiftlo = signed_down((i128)shift.lo * 100, S);
     f->shifthi = signed_up((i128)shift.hi * 100, S);
-    return area.hi * 100 <= (f->area + q->allow) * S;
+    return area.hi * 100 <= (f->area + sheet->allow) * S;
 }
 
 // ---- questions 2 to 11
 
-static const u64 RANGES[SHEET_LINES][2] = {{0, 1},    {4000, 50000}, {2000, 20000}, {2000, 20000}, {500, 12000}, {0, 3000},
-                                           {50, 600}, {45, 600},     {200, 700},    {1000, 1500},  {0, 8},       {0, 1000}};
-
-static Answer judged(const Sheet *q, Figures *f) {
-    const u64 values[SHEET_LINES] = {q->form, q->h, q->b1,  q->b2,  q->c,      q->r,
-                                     q->tnom, q->t, q->fyb, q->gm0, q->rounds, q->allow};
+static Answer judged(const Sheet *sheet, Figures *f) {
+    const u64 values[SHEET_LINES] = {sheet->form, sheet->h, sheet->b1,  sheet->b2,  sheet->c,      sheet->r,
+                                     sheet->tnom, sheet->t, sheet->fyb, sheet->gm0, sheet->rounds, sheet->allow};
     for (int i = 0; i < SHEET_LINES; i++)
         if (values[i] < RANGES[i][0] || values[i] > RANGES[i][1]) return refused(2, i + 1);
-    const u64 b[2] = {q->b1, q->b2};
-    if (q->t > q->tnom) return refused(3, 8);
+    const u64 b[2] = {sheet->b1, sheet->b2};
+    if (sheet->t > sheet->tnom) return refused(3, 8);
     for (int i = 0; i < 2; i++)
-        if (b[i] > 60 * q->t) return refused(4, 3 + i);
-    if (q->c > 50 * q->t) return refused(5, 5);
-    if (q->h > 500 * q->t) return refused(6, 2);
+        if (b[i] > 60 * sheet->t) return refused(4, 3 + i);
+    if (sheet->c > 50 * sheet->t) return refused(5, 5);
+    if (sheet->h > 500 * sheet->t) return refused(6, 2);
     for (int i = 0; i < 2; i++)
-        if (b[i] > 5 * q->c || 5 * q->c > 3 * b[i]) return refused(7, 3 + i);
-    if (q->r > 5 * q->t || 10 * q->r > b[0] - q->tnom || 10 * q->r > b[1] - q->tnom) return refused(8, 6);
+        if (b[i] > 5 * sheet->c || 5 * sheet->c > 3 * b[i]) return refused(7, 3 + i);
+    if (sheet->r > 5 * sheet->t) return refused(8, 6);
+    if (10 * sheet->r > b[0] - sheet->tnom || 10 * sheet->r > b[1] - sheet->tnom) return refused(8, 6);
     for (int i = 0; i < 2; i++)
-        if (5 * (2 * q->c - q->tnom) > 6 * (b[i] - q->tnom)) return refused(9, 3 + i);
-    if (q->form == 0 && 2 * q->c > q->h) return refused(10, 5);
-    if (!work(q, f)) return refused(11, 12);
-    return refused(0, 0);
+        if (5 * (2 * sheet->c - sheet->tnom) > 6 * (b[i] - sheet->tnom)) return refused(9, 3 + i);
+    if (sheet->form == 0 && 2 * sheet->c > sheet->h) return refused(10, 5);
+    if (!work(sheet, f)) return refused(11, 12);
+    return in_order(0);
 }
 
 // ---- text
 
-static const char *const KEYS[LINES] = {"form=", "h=",   "b1=",     "b2=",    "c=",    "r=",     "tnom=", "t=",    "fyb=",
-                                        "gm0=",  "rounds=", "allow=", "area=", "axial=", "chi1=", "chi2=", "shiftlo=", "shifthi="};
+static const char *const KEYS[LINES] = {
+    "form=", "h=", "b1=", "b2=", "c=", "r=", "tnom=", "t=", "fyb=", "gm0=", "rounds=", "allow=",
+    "area=", "axial=", "chi1=", "chi2=", "shiftlo=", "shifthi=",
+};
 
 static char *put_text(char *at, const char *text) {
     while (*text) *at++ = *text++;
@@ -272,11 +276,13 @@ static char *put_number(char *at, u64 n) {
     return at;
 }
 
-static Answer put(const Sheet *q, const Figures *f, uint8_t *buffer, size_t room) {
-    const i64 values[LINES] = {(i64)q->form, (i64)q->h,      (i64)q->b1,    (i64)q->b2,   (i64)q->c,    (i64)q->r,
-                               (i64)q->tnom, (i64)q->t,      (i64)q->fyb,   (i64)q->gm0,  (i64)q->rounds, (i64)q->allow,
-                               (i64)f->area, (i64)f->axial,  (i64)f->chi1,  (i64)f->chi2, f->shiftlo,   f->shifthi};
-    char text[LONGEST], *at = text;
+static Answer put(const Sheet *sheet, const Figures *f, uint8_t *buffer, size_t room) {
+    const i64 values[LINES] = {
+        (i64)sheet->form, (i64)sheet->h, (i64)sheet->b1,  (i64)sheet->b2,  (i64)sheet->c,      (i64)sheet->r,
+        (i64)sheet->tnom, (i64)sheet->t, (i64)sheet->fyb, (i64)sheet->gm0, (i64)sheet->rounds, (i64)sheet->allow,
+        (i64)f->area,     (i64)f->axial, (i64)f->chi1,    (i64)f->chi2,    f->shiftlo,         f->shifthi,
+    };
+    char text[CERTIFICATE_LONGEST], *at = text;
     for (int i = 0; i < LINES; i++) {
         at = put_text(at, KEYS[i]);
         if (i == 0) {
@@ -290,7 +296,7 @@ static Answer put(const Sheet *q, const Figures *f, uint8_t *buffer, size_t room
     size_t length = (size_t)(at - text);
     if (length > room) return (Answer){12, 0, length};
     memcpy(buffer, text, length);
-    return (Answer){0, 0, length};
+    return in_order(length);
 }
 
 // The number of line i at *at, which moves behind its newline; 0 where the line is bad.
@@ -302,7 +308,7 @@ static int read_line(const uint8_t **at, const uint8_t *end, int i, i64 *value) 
         if (p == end || (*p != 'C' && *p != 'Z')) return 0;
         *value = *p++ == 'Z';
     } else {
-        int negative = i >= 16 && p != end && *p == '-';
+        int negative = i >= SHIFTS && p != end && *p == '-';
         if (negative) p++;
         const uint8_t *first = p;
         i64 n = 0;
@@ -330,36 +336,36 @@ static Sheet sheet_of(const i64 v[]) {
 
 // ---- the calls
 
-static Answer certify(const Sheet *q, uint8_t *buffer, size_t room) {
+static Answer certify(const Sheet *sheet, uint8_t *buffer, size_t room) {
     Figures f;
-    Answer answer = judged(q, &f);
-    return answer.refusal ? answer : put(q, &f, buffer, room);
+    Answer answer = judged(sheet, &f);
+    return answer.refusal ? answer : put(sheet, &f, buffer, room);
 }
 
-Answer plain_write(const uint8_t *sheet, size_t sheet_length, uint8_t *buffer, size_t room) {
+Answer plain_write(const uint8_t *text, size_t length, uint8_t *buffer, size_t room) {
     i64 values[SHEET_LINES];
-    u64 bad = read_lines(sheet, sheet_length, SHEET_LINES, values);
+    u64 bad = read_lines(text, length, SHEET_LINES, values);
     if (bad) return refused(1, bad);
-    Sheet q = sheet_of(values);
-    return certify(&q, buffer, room);
+    Sheet sheet = sheet_of(values);
+    return certify(&sheet, buffer, room);
 }
 
 Answer plain_check(const uint8_t *certificate, size_t length) {
     i64 values[LINES];
     u64 bad = read_lines(certificate, length, LINES, values);
     if (bad) return refused(1, bad);
-    Sheet q = sheet_of(values);
+    Sheet sheet = sheet_of(values);
     Figures f;
-    Answer answer = judged(&q, &f);
+    Answer answer = judged(&sheet, &f);
     if (answer.refusal) return answer;
     const i64 worked[LINES - SHEET_LINES] = {(i64)f.area, (i64)f.axial, (i64)f.chi1, (i64)f.chi2, f.shiftlo, f.shifthi};
     for (int i = SHEET_LINES; i < LINES; i++)
         if (values[i] != worked[i - SHEET_LINES]) return refused(13, i + 1);
-    return (Answer){0, 0, length};
+    return in_order(length);
 }
 
 Answer plain_from_numbers(u64 form, u64 h, u64 b1, u64 b2, u64 c, u64 r, u64 tnom, u64 t, u64 fyb, u64 gm0, u64 rounds,
                           u64 allow, uint8_t *buffer, size_t room) {
-    Sheet q = {form, h, b1, b2, c, r, tnom, t, fyb, gm0, rounds, allow};
-    return certify(&q, buffer, room);
+    Sheet sheet = {form, h, b1, b2, c, r, tnom, t, fyb, gm0, rounds, allow};
+    return certify(&sheet, buffer, room);
 }

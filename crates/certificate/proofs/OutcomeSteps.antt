@@ -1,7 +1,7 @@
 -- The steps of the code that writes and checks, each with what it gives.
 use Prim.Native.Nat.{ℕ, _+_, _≤_, _<_}
 use mathlib.Core.List.{List, [], _∷_, _++_}
-use mathlib.Core.Path.{_≡_, sym, ap, _∙_}
+use mathlib.Core.Path.{_≡_, sym, ap, _∙_, subst}
 use mathlib.Core.Bool.{true, false}
 use native.Mathlib.Omega.{arith}
 use native.Mathlib.Numerals.{add-one}
@@ -15,7 +15,7 @@ use Rattle.section.specs.declared.Figures.{Figures}
 use Rattle.section.specs.Figures.{Printed, figures}
 use Rattle.section.specs.Forms.{printedOf}
 use Rattle.text.specs.Keys.{sheetLines, certificateLines}
-use Rattle.text.specs.Lines.{over, linesText}
+use Rattle.text.specs.Lines.{over, linesText, longest}
 use Rattle.text.specs.Reading.{Reading, values, badLine, readLines}
 use Rattle.text.specs.Forms.{integers, reading}
 use Rattle.text.specs.declared.reading.Verdict.{Verdict as Lines}
@@ -35,7 +35,8 @@ use Rattle.certificate.specs.Questions.{refused as turned}
 use Rattle.certificate.specs.Certificates.{sheetValues, figureValues, certificateValues, certificateOf, sheetShown}
 use Rattle.certificate.specs.Outcome.{fitting, question12, agreeing, question13, writing, checking, Outcome, refused, written, settled, fitted, outcomeOf, outcomeRead, outcome, answerOf, bufferAfter, checkedRead, checked, checkAnswer}
 use Rattle.certificate.proofs.Steps.{in-turn, then-nothing}
-use Rattle.certificate.proofs.Theorems.{judged-refused, judged-accepted}
+use Rattle.certificate.proofs.Theorems.{judged-refused, judged-accepted, accepted-is-met}
+use Rattle.certificate.proofs.Shown.{length-most}
 
 -- what the reader found
 module _ (v : Lines) (vs : List ℤ) (x : Reading) where
@@ -102,6 +103,12 @@ module _ (q : Sheet) where
   room-asked {p} room e =
       let h = questions-met e in
       rw (in-turn (questions q) (question12 room q ∷ []), h .0, then-nothing (firstOf (fitting room (certificateOf q))), h .1)
+
+  pub accepted-length : {p : Printed} → verdict q ≡ accepted p → length (linesText (sheetValues q ++ figureValues p)) ≤ longest certificateLines
+  unfolding certificateOf certificateValues
+  accepted-length {p} e =
+      let h = accepted-is-met q p .0 e in
+      subst (λ (x : Printed). length (linesText (sheetValues q ++ figureValues x)) ≤ longest certificateLines) (sym (h .2)) (length-most q (h .0))
 
   pub refused-checking : {r : Refusal} (vs : List ℤ) → verdict q ≡ turned r → firstIn (checking vs q) ≡ Refused r
   unfolding checking

@@ -14,10 +14,10 @@ use Rattle.section.specs.Working.{worked}
 use Rattle.section.specs.Figures.{Printed, figures, Question11, Held}
 use Rattle.section.proofs.Theorems.{finer-working-held}
 use Rattle.text.specs.Keys.{sheetLines, certificateLines}
-use Rattle.text.specs.Lines.{linesFrom, linesText, SpeltFrom, longest, TextOf, FirstBad}
+use Rattle.text.specs.Lines.{linesFrom, linesText, SpeltFrom, TextOf, FirstBad}
 use Rattle.text.specs.Reading.{Reading, values, badLine, readLines}
 use Rattle.text.proofs.LineLaws.{lines-join}
-use Rattle.text.proofs.Theorems.{reads-values, reads-bad, text-at-most, longest-sheet, longest-certificate, cut-behind}
+use Rattle.text.proofs.Theorems.{reads-values, reads-bad, longest-sheet, longest-certificate, cut-behind}
 use Rattle.certificate.specs.declared.Refusal.{Refusal}
 use Rattle.certificate.specs.declared.Refusal.the-variants.{Spelling, Room}
 use Rattle.certificate.specs.declared.Found.{Found}
@@ -30,7 +30,7 @@ use Rattle.certificate.specs.Promises.{Question1, Question12, Question13
 use Rattle.certificate.proofs.FirstNos.{each-when-met, met-when-each, reason-when-refused, refused-when-reason}
 use Rattle.certificate.proofs.Ties.{writing-tied, checking-tied}
 use Rattle.certificate.proofs.Theorems.{each-is-sound, each-of-both}
-use Rattle.certificate.proofs.Shown.{sheet-back, figures-back, sheet-count, behind-sheet, sheet-alone, values-back, split-at-sheet, sheet-spelt, certificate-text}
+use Rattle.certificate.proofs.Shown.{sheet-back, figures-back, sheet-count, behind-sheet, sheet-alone, values-back, split-at-sheet, sheet-spelt, certificate-text, length-most}
 use Rattle.certificate.proofs.OutcomeSteps.{bad-sheet, right-sheet, bad-certificate, right-certificate}
 
 -- what reading gives: values, or a bad line
@@ -242,12 +242,6 @@ passes-when-issued c = (
 )
 
 -- A written certificate is no longer than the longest.
-length-most : (q : Sheet) → Sound q → length (certificateOf q) ≤ longest certificateLines
-length-most q s =
-    let t = certificate-text q s in
-    let most = text-at-most (certificateValues q) (t .spelt) in
-    subst (λ (k : ℕ). length (certificateOf q) ≤ longest k) (t .count) (subst (λ (l : List ℕ). length l ≤ longest (length (certificateValues q))) (sym (t .text)) most)
-
 pub numbers-length : (q : Sheet) (room : ℕ) (t : List ℕ) → outcomeOf q room ≡ written t → length t ≤ 273
 numbers-length q room t e =
     let h = numbers-written q room t .0 e in

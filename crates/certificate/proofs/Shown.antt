@@ -14,9 +14,9 @@ use Rattle.section.specs.Sheets.{Question2, Sound}
 use Rattle.section.specs.Figures.{Printed, figures, FiguresBelow}
 use Rattle.section.proofs.Theorems.{figures-have-ten-digits}
 use Rattle.text.specs.Keys.{sheetLines, certificateLines}
-use Rattle.text.specs.Lines.{SpeltFrom, TextOf}
+use Rattle.text.specs.Lines.{SpeltFrom, longest, TextOf}
 use Rattle.text.specs.Forms.{integers}
-use Rattle.text.proofs.Theorems.{form-spelt, number-spelt, shift-spelt, spelt-none, spelt-more, spelt-join, spelt-split, numbers-above}
+use Rattle.text.proofs.Theorems.{form-spelt, number-spelt, shift-spelt, spelt-none, spelt-more, spelt-join, spelt-split, numbers-above, text-at-most}
 use Rattle.certificate.specs.Questions.{sheetOf, values}
 use Rattle.certificate.specs.Certificates.{sheetValues, figureValues, certificateValues, certificateOf, valueAt, numberAt, sheetShown, figuresShown}
 
@@ -165,3 +165,10 @@ certificate-text q s =
       spelt = spelt-join 0 (sheetValues q) (figureValues p) (sheet-spelt q (s .q2)) (figures-spelt p (figures-have-ten-digits q s));
       text = refl;
     }
+
+-- which is no longer than the longest
+pub length-most : (q : Sheet) → Sound q → length (certificateOf q) ≤ longest certificateLines
+length-most q s =
+    let t = certificate-text q s in
+    let most = text-at-most (certificateValues q) (t .spelt) in
+    subst (λ (k : ℕ). length (certificateOf q) ≤ longest k) (t .count) (subst (λ (l : List ℕ). length l ≤ longest (length (certificateValues q))) (sym (t .text)) most)

@@ -10,9 +10,11 @@ use pair::signed::Integer;
 use section::Figures;
 use section::Sheet;
 use text::CERTIFICATE_LINES;
+use text::LONGEST_CERTIFICATE;
 use text::SHEET_LINES;
 use text::reading;
 use text::writing;
+ghost use Prim.Native.Nat.{_≤_};
 ghost use mathlib.Core.Path.{_≡_};
 ghost use mathlib.Core.List.{_++_};
 ghost use lib.ListN.{length, take, drop};
@@ -21,7 +23,7 @@ ghost use Rattle.pair.specs.SignedPairs.{integer};
 ghost use Rattle.section.specs.Forms.{printedOf};
 ghost use Rattle.text.specs.Forms.{integers};
 ghost use Rattle.text.specs.Keys.{sheetLines, certificateLines};
-ghost use Rattle.text.specs.Lines.{linesText};
+ghost use Rattle.text.specs.Lines.{linesText, longest};
 ghost use Rattle.text.specs.Reading.{values};
 ghost use Rattle.certificate.specs.Claims.{_is_, test};
 ghost use Rattle.certificate.specs.Questions.{sheetOf, firstOf};
@@ -85,14 +87,18 @@ fn sheet_shown(values: [Integer; CERTIFICATE_LINES]) -> Sheet
     )
 }
 
-// Question 12: the certificate is written if it fits the buffer.
+// Question 12: the certificate is written if it fits the buffer. Where the buffer takes every
+// certificate, its length need not be found first.
 fn put(values: [Integer; CERTIFICATE_LINES], buffer: &mut [u8]) -> Answer
+    requires { ⌜ length (linesText (integers values)) ≤ longest certificateLines ⌝ }
     ensures { λ a. ⌜ a ≡ answerOf (fitted (length (now (buffer .entry))) (linesText (integers values))) ⌝ }
     ensures { λ _. ⌜ now (buffer .exit) ≡ bufferAfter (fitted (length (now (buffer .entry))) (linesText (integers values))) (now (buffer .entry)) ⌝ }
 {
-    let needed = writing::lines_length(values, 0, CERTIFICATE_LINES);
-    if buffer.len() < needed {
-        return refusals::told_of(Refusal::Room(needed as u64));
+    if buffer.len() < LONGEST_CERTIFICATE {
+        let needed = writing::lines_length(values, 0, CERTIFICATE_LINES);
+        if buffer.len() < needed {
+            return refusals::told_of(Refusal::Room(needed as u64));
+        }
     }
     let n = writing::write_lines(buffer, values, 0, CERTIFICATE_LINES);
     refusals::answer(0, 0, n as u64)

@@ -3,7 +3,7 @@
 use mathlib.Core.Path.{_≡_, refl, ap}
 use mathlib.Core.Bool.{true}
 use Prim.Native.Nat.{ℕ, _+_, _-_, _*_, _%_, _^_, _≤_, _<_}
-use native.Mathlib.Nat.{le-refl, le-trans, lt-of-le-of-lt, mul-le-mul, mul-le-mul-left, mul-le-mul-right}
+use native.Mathlib.Nat.{le-refl, le-trans, lt-of-le-of-lt, mul-assoc, mul-pos, mul-le-mul, mul-le-mul-left, mul-le-mul-right, dvd-of-mod-eq-zero, mod-eq-zero-of-dvd, dvd-mul-left-of-dvd}
 use native.Mathlib.Omega.{arith}
 use borrow.Author.Tests.{le-leb, lt-ltb, eq-eqb}
 use Rattle.pair.specs.Pairs.{_to_, exact, ratio, plus, minus, times, over, root, cubeRoot}
@@ -12,9 +12,10 @@ use Rattle.pair.specs.Enclosure.{Finer, Inside, Ordered, Positive, AtLea
 use Rattle.pair.specs.declared.Pair.{Pair}
 use Rattle.pair.proofs.Tests.{and-both}
 use Rattle.pair.proofs.Quotients.{ceil-le, le-floor}
+use Rattle.pair.proofs.Fitting.{ratio-out, over-ratio-out}
 use Rattle.pair.proofs.Powers.{pow-two, pow-three, le-down, up-le}
-use Rattle.pair.proofs.Ratios.{ratio-exact}
-use Rattle.pair.proofs.Laws.{exact-inside, minus-inside, times-inside, over-inside, root-inside, cube-root-inside}
+use Rattle.pair.proofs.Ratios.{ratio-exact, over-by-ratio, over-twice}
+use Rattle.pair.proofs.Laws.{ratio-positive, ratio-ordered, exact-inside, minus-inside, times-inside, over-inside, root-inside, cube-root-inside}
 
 -- bounds of each end, in units of 1/s
 
@@ -165,6 +166,21 @@ times-ratio-fits s p a b e h = and-both e h
 pub over-ratio-fits : (s : ℕ) (p : Pair) (a b : ℕ) → exactRatio s a b ≡ true → overFits s p (ratio s a b) ≡ true → overRatioFits s p a b ≡ true
 unfolding overRatioFits
 over-ratio-fits s p a b e h = and-both e h
+
+-- where dividing by a ÷ b and then by c has room, so has dividing once by c × a ÷ b
+pub over-twice-fits : (s : ℕ) (p : Pair) (a b c : ℕ) → overRatioFits s p a b ≡ true → overRatioFits s (over s p (ratio s a b)) c 1 ≡ true → overRatioFits s p (c * a) b ≡ true
+unfolding overFits words word
+over-twice-fits s p a b c e h =
+    let once = over-ratio-out s p a b e in
+    let whole = ratio-out s a b (once .0) in
+    let a⁺ = over-by-ratio s p a b e .0 in
+    let again = over-by-ratio s (over s p (ratio s a b)) c 1 h in
+    let same = over-twice s p a b c (again .0) e in
+    let exactly = exact-ratio s (c * a) b (whole .0) (whole .1) (rw (mul-assoc c a s) (mod-eq-zero-of-dvd b (dvd-mul-left-of-dvd b (dvd-of-mod-eq-zero b (whole .2)) c))) in
+    let some = ratio-positive s (c * a) b (mul-pos (again .0) a⁺) exactly in
+    over-ratio-fits s p (c * a) b exactly
+    (and-both (and-both (lt-ltb _ _ (some .low)) (lt-ltb _ _ (le-trans (some .low) (ratio-ordered s (c * a) b .ends))))
+    (rw same (and-both (lt-ltb _ _ (again .3)) (lt-ltb _ _ (again .4)))))
 
 pub root-fits : (s : ℕ) {m : ℕ} {P p : Pair} → s % 64 ≡ 0 → Inside m P p → p .hi * m * s < 2 ^ 70 → rootFits s P ≡ true
 unfolding rootFits ordered

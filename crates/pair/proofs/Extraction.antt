@@ -4,10 +4,11 @@ use mathlib.Core.Bool.{Bool, true, false, cond}
 use Prim.Native.Nat.{ℕ, zero, suc, _+_, _-_, _*_, _^_, _≤_, _<_}
 use native.Mathlib.Nat.{lt-of-not-le, not-le-of-lt, mul-le-mul}
 use native.Mathlib.Omega.{arith}
-use borrow.Author.Tests.{leb-true, leb-false}
-use lib.Dec.{leb}
+use borrow.Author.Tests.{leb-true, leb-false, ltb-true}
+use lib.Dec.{leb, ltb}
 use Rattle.pair.specs.Remainders.{SquareRooted, CubeRooted}
 use Rattle.pair.specs.Rounding.{rootDown, rootUp}
+use Rattle.pair.proofs.Tests.{by-test as tested}
 use Rattle.pair.proofs.Powers.{pow-two, pow-three, IsRoot, root-is, up-at, up-past}
 
 -- the root of a number below b × b is below b
@@ -22,6 +23,20 @@ square-next r l x h k = by-test (leb (r * 4 + 1) (l * 4 + x)) refl
     by-test : (t : Bool) → leb (r * 4 + 1) (l * 4 + x) ≡ t → SquareRooted ((r * r + l) * 4 + x) (r * 2 + cond t 1 0) (l * 4 + x - cond t (r * 4 + 1) 0)
     by-test true e = let le : r * 4 + 1 ≤ l * 4 + x = leb-true _ _ e in record { sum = omega arith; small = omega arith }
     by-test false e = let lt : l * 4 + x < r * 4 + 1 = leb-false _ _ e in record { sum = omega arith; small = omega arith }
+
+-- a square below n raised by one step where more than twice its root is left: o is the step, p what it takes from the rest
+pub square-raised : (g n : ℕ) {o p : ℕ} → g * g ≤ n → o ≡ cond (ltb (g * 2) (n - g * g)) 1 0 → p ≡ cond (ltb (g * 2) (n - g * g)) (g * 2 + 1) 0 →
+    (p ≤ n - g * g) × ((g + o) * (g + o) + (n - g * g - p) ≡ n)
+square-raised g n {o} {p} h =
+    tested (ltb (g * 2) (n - g * g)) (λ t. o ≡ cond t 1 0 → p ≡ cond t (g * 2 + 1) 0 → (p ≤ n - g * g) × ((g + o) * (g + o) + (n - g * g - p) ≡ n))
+    (λ t d e. let l : g * 2 < n - g * g = ltb-true _ _ t in (omega (arith, l, e), raised d (omega (arith, l, h, e))))
+    (λ t d e. (omega (arith, e), kept d (omega (arith, h, e))))
+  where
+    raised : o ≡ 1 → g * g + (g * 2 + 1) + (n - g * g - p) ≡ n → (g + o) * (g + o) + (n - g * g - p) ≡ n
+    raised d e = ap (λ (x : ℕ). (g + x) * (g + x) + (n - g * g - p)) d ∙ omega (arith, e)
+
+    kept : o ≡ 0 → g * g + (n - g * g - p) ≡ n → (g + o) * (g + o) + (n - g * g - p) ≡ n
+    kept d e = ap (λ (x : ℕ). (g + x) * (g + x) + (n - g * g - p)) d ∙ omega (arith, e)
 
 pub square-is-root : {n r l : ℕ} → SquareRooted n r l → IsRoot 2 n r
 square-is-root {n} {r} {l} i = record { low = rw pow-two (omega (arith, i .sum)); high = rw pow-two (omega (arith, i .sum, i .small)) }

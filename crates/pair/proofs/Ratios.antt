@@ -1,14 +1,15 @@
 -- An exact operand a ÷ b: the scale cancels.
-use mathlib.Core.Path.{_≡_, sym, ap, _∙_}
+use mathlib.Core.Path.{_≡_, sym, ap, ap₂, _∙_}
 use mathlib.Core.Bool.{true}
 use Prim.Native.Nat.{ℕ, _*_, _/_, _%_, _^_, _<_}
-use native.Mathlib.Nat.{div-add-mod', mul-div-cancel, mul-pos}
+use native.Mathlib.Nat.{div-add-mod', div-div-eq-div-mul, mul-comm, mul-div-cancel, mul-pos}
 use native.Mathlib.Omega.{arith}
+use lib.Dec.{lit<}
 use Rattle.pair.specs.Rounding.{ceilDiv}
-use Rattle.pair.specs.Pairs.{exact, ratio, times, over}
+use Rattle.pair.specs.Pairs.{_to_, exact, ratio, times, over}
 use Rattle.pair.specs.Fits.{timesRatioFits, overRatioFits}
 use Rattle.pair.specs.declared.Pair.{Pair}
-use Rattle.pair.proofs.Quotients.{pos-left, same-floor, same-ceil}
+use Rattle.pair.proofs.Quotients.{pos-left, same-floor, same-ceil, ceil-twice}
 use Rattle.pair.proofs.Fitting.{ratio-out, times-out, over-out, times-ratio-out, over-ratio-out}
 
 -- the units of an exact value
@@ -46,3 +47,24 @@ over-by-ratio s p a b e =
     let some : 0 < a = pos-left a s (omega (arith, mul-pos (small .0) (whole .1))) in
     let cross : (n : ℕ) → n * b * (a * s / b) ≡ n * s * a = λ n. omega (arith, ap (λ (x : ℕ). n * x) u) in
     (some, same-floor _ _ _ _ some (small .0) (cross (p .lo)), same-ceil _ _ _ _ some (small .0) (cross (p .hi)), small .2 .low, small .2 .high)
+
+exact-twice : (s : ℕ) (p : Pair) (v c : ℕ) → 0 < s → 0 < v → 0 < c → over s p (exact (c * v)) ≡ over s (over s p (exact v)) (exact (c * s))
+unfolding over exact
+exact-twice s p v c s⁺ v⁺ c⁺ =
+    let cs⁺ = mul-pos c⁺ s⁺ in
+    ap₂ (λ (x y : ℕ). x to y)
+    (ap (λ (d : ℕ). p .lo * s / d) (mul-comm c v) ∙ sym (div-div-eq-div-mul (p .lo * s) v c) ∙ same-floor _ _ _ _ c⁺ cs⁺ (omega arith))
+    (ap (λ (d : ℕ). ceilDiv (p .hi * s) d) (mul-comm c v) ∙ sym (ceil-twice (p .hi * s) v c v⁺ c⁺) ∙ same-ceil _ _ _ _ c⁺ cs⁺ (omega arith))
+
+-- dividing by a ÷ b and then by the whole number c, rounded each time, is dividing once by c × a ÷ b
+pub over-twice : (s : ℕ) (p : Pair) (a b c : ℕ) → 0 < c → overRatioFits s p a b ≡ true → over s p (ratio s (c * a) b) ≡ over s (over s p (ratio s a b)) (ratio s c 1)
+over-twice s p a b c c⁺ e =
+    let fit = over-ratio-out s p a b e in
+    let whole = ratio-out s a b (fit .0) in
+    let u = units s a b (whole .2) in
+    let a⁺ = over-by-ratio s p a b e .0 in
+    let v⁺ : 0 < a * s / b = pos-left (a * s / b) b (rw u (mul-pos a⁺ (whole .0))) in
+    let once : ratio s a b ≡ exact (a * s / b) = ratio-exact s a b _ (whole .1) u in
+    let more : ratio s (c * a) b ≡ exact (c * (a * s / b)) = ratio-exact s (c * a) b _ (whole .1) (omega (arith, ap (λ (x : ℕ). c * x) u)) in
+    let by : ratio s c 1 ≡ exact (c * s) = ratio-exact s c 1 _ (lit< tt) (omega arith) in
+    rw (once, more, by) (exact-twice s p (a * s / b) c (whole .0) v⁺ c⁺)

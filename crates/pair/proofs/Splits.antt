@@ -3,9 +3,13 @@ use mathlib.Core.Path.{_≡_, sym, ap, ap₂, _∙_}
 use Prim.Native.Nat.{ℕ, _+_, _-_, _*_, _/_, _%_, _^_, _≤_, _<_}
 use native.Mathlib.Nat.{le-trans, le-of-eq, le-of-lt, lt-of-lt-of-le, le-antisymm, le-add-right, lt-of-le-of-lt, div-lt-iff-lt-mul, mul-le-mul, mul-le-mul-right, le-of-mul-le-mul-right, lt-of-mul-lt-mul-right, div-add-mod', mod-lt}
 use native.Mathlib.Omega.{arith}
+use mathlib.Core.Bool.{cond}
+use borrow.Author.Tests.{eqb-true, eqb-false}
+use lib.Dec.{eqb}
 use lib.Arith.{digits-div}
 use Rattle.pair.specs.Rounding.{ceilDiv}
 use Rattle.pair.specs.Remainders.{Split}
+use Rattle.pair.proofs.Tests.{by-test}
 use Rattle.pair.proofs.Quotients.{ceil-le, le-ceil}
 
 pub divides : (n : ℕ) {d : ℕ} → 0 < d → Split n d (n / d) (n % d)
@@ -42,12 +46,33 @@ ceil-exact {n} {d} {q} {r} h e =
     let pos : 0 < d = omega (arith, h .small) in
     le-antisymm (le-of-mul-le-mul-right {k = d} (le-trans (omega (arith, h .sum)) (le-ceil {n = n} pos)) pos) (ceil-le pos (omega (arith, h .sum)))
 
-pub ceil-above : {n d q r : ℕ} → Split n d q r → (r ≡ 0 → ⊥) → q + 1 ≡ ceilDiv n d
-ceil-above {n} {d} {q} {r} h e =
-    let pos : 0 < d = omega (arith, h .small) in
-    let below : q < ceilDiv n d = lt-of-mul-lt-mul-right d (lt-of-lt-of-le (omega (arith, h .sum)) (le-ceil {n = n} pos)) in
-    let above : ceilDiv n d ≤ q + 1 = ceil-le pos (omega (arith, h .sum, h .small)) in
+pub ceil-between : (q : ℕ) {n d : ℕ} → 0 < d → q * d < n → n ≤ (q + 1) * d → q + 1 ≡ ceilDiv n d
+ceil-between q {n} {d} pos l h =
+    let below : q < ceilDiv n d = lt-of-mul-lt-mul-right d (lt-of-lt-of-le l (le-ceil {n = n} pos)) in
+    let above : ceilDiv n d ≤ q + 1 = ceil-le pos h in
     omega arith
+
+pub ceil-above : {n d q r : ℕ} → Split n d q r → (r ≡ 0 → ⊥) → q + 1 ≡ ceilDiv n d
+ceil-above {n} {d} {q} {r} h e = ceil-between q (omega (arith, h .small)) (omega (arith, h .sum)) (omega (arith, h .sum, h .small))
+
+-- rounding up, by the quotient of one less: o is 1, but 0 of 0
+pub ceil-by-one-less : (n : ℕ) {d o : ℕ} → 0 < d → o ≡ cond (eqb n 0) 0 1 → (o ≤ n) × ((n - o) / d + o ≡ ceilDiv n d)
+ceil-by-one-less n {d} {o} pos =
+    by-test (eqb n 0) (λ t. o ≡ cond t 0 1 → (o ≤ n) × ((n - o) / d + o ≡ ceilDiv n d))
+    (λ t e. (omega (arith, e), of-none (eqb-true n 0 t) e))
+    (λ t e. (omega (arith, eqb-false n 0 t, e), of-some (eqb-false n 0 t) e))
+  where
+    of-none : n ≡ 0 → o ≡ 0 → (n - o) / d + o ≡ ceilDiv n d
+    of-none e f =
+        let z : n - o ≡ 0 = omega (arith, e) in
+        let s = divides 0 pos in
+        let same : 0 / d + 0 ≡ 0 / d = omega arith in
+        ap₂ (λ (x y : ℕ). x / d + y) z f ∙ same ∙ ceil-exact s (omega (arith, s .sum)) ∙ ap (λ (x : ℕ). ceilDiv x d) (sym e)
+
+    of-some : (n ≡ 0 → ⊥) → o ≡ 1 → (n - o) / d + o ≡ ceilDiv n d
+    of-some e f =
+        let s = divides (n - o) pos in
+        ap (λ (x : ℕ). (n - o) / d + x) f ∙ ceil-between ((n - o) / d) pos (omega (arith, s .sum, e, f)) (omega (arith, s .sum, s .small, e, f))
 
 -- the upper word of a product, column by column from halves of 32 bits
 abbrev B : ℕ

@@ -18,7 +18,7 @@ rootIn zero e n = 0
 rootIn (suc steps) e zero = 0
 rootIn (suc steps) e (suc n) = nextRoot e (suc n) (2 * rootIn steps e (suc n / 2 ^ e))
 
--- the e-th root of n rounded down: the r with r ^ e ≤ n < (r + 1) ^ e (proofs/Roots, `down-is-root`: n steps are always enough)
+-- the e-th root of n rounded down: the r with r ^ e ≤ n < (r + 1) ^ e (proofs/Powers, `down-is-root`: n steps are always enough)
 unfoldable pub rootDown : ℕ → ℕ → ℕ
 unfolding rootIn
 rootDown e n = rootIn n e n

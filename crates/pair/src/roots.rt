@@ -1,4 +1,6 @@
-// Whole roots, each held with what it leaves, one bit of the root after the other.
+// Whole roots, each held with what it leaves: one bit of the root after the other, but for a square root
+// whose guess is right.
+use crate::guesses;
 use crate::wide;
 ghost use mathlib.Core.Path.{_≡_};
 ghost use Prim.Native.Nat.{_+_, _*_, _%_, _^_, _≤_, _<_};
@@ -39,7 +41,7 @@ pub struct Squares {
 }
 
 // The roots of m and n in one loop: a bit of the one need not wait for a bit of the other.
-pub fn squares_of(m: u64, n: u64) -> Squares
+fn squares_by_bits(m: u64, n: u64) -> Squares
     ensures { λ r. ⌜ SquareRooted m (r .one .root) (r .one .rest) × SquareRooted n (r .two .root) (r .two .rest) ⌝ }
 {
     let mut one = Square { root: 0, rest: 0 };
@@ -54,11 +56,46 @@ pub fn squares_of(m: u64, n: u64) -> Squares
     Squares { one, two }
 }
 
+// A square near n from below and what it leaves: that of the guess, or of one more.
+fn square_near(n: u64) -> Square
+    ensures { λ r. ⌜ (r .root * r .root + r .rest ≡ n) × (r .root ≤ 2 ^ 32) ⌝ }
+{
+    let guess = guesses::square_root(n);
+    let square = guess * guess;
+    if n < square {
+        return Square { root: 0, rest: n };
+    }
+    let rest = n - square;
+    let more = guess * 2 < rest;
+    Square {
+        root: guess + wide::pick(more, 1, 0),
+        rest: rest - wide::pick(more, guess * 2 + 1, 0),
+    }
+}
+
+// The roots of m and n: as guessed, where what is left shows that the guesses are right.
+pub fn squares_of(m: u64, n: u64) -> Squares
+    ensures { λ r. ⌜ SquareRooted m (r .one .root) (r .one .rest) × SquareRooted n (r .two .root) (r .two .rest) ⌝ }
+{
+    let one = square_near(m);
+    let two = square_near(n);
+    if one.rest <= one.root * 2 {
+        if two.rest <= two.root * 2 {
+            return Squares { one, two };
+        }
+    }
+    squares_by_bits(m, n)
+}
+
 pub fn square_of(n: u64) -> Square
     ensures { λ r. ⌜ SquareRooted n (r .root) (r .rest) ⌝ }
 {
-    let t = squares_of(n, 0);
-    t.one
+    let t = square_near(n);
+    if t.rest <= t.root * 2 {
+        return t;
+    }
+    let u = squares_by_bits(n, 0);
+    u.one
 }
 
 // Three digits 0 more.
@@ -71,11 +108,14 @@ fn by_64(t: Square) -> Square
     square_step(b, 0)
 }
 
-// The root of v * s, which may pass 64 bits: of v * (s / 64), and three digits 0 more.
+// The root of v * s. Where that passes 64 bits: of v * (s / 64), and three digits 0 more.
 pub fn scaled_square(v: u64, s: u64) -> Square
     requires { ⌜ (s % 64 ≡ 0) × (v * s < 2 ^ 70) ⌝ }
     ensures { λ r. ⌜ SquareRooted (v * s) (r .root) (r .rest) ⌝ }
 {
+    if wide::high(v, s) == 0 {
+        return square_of(v * s);
+    }
     by_64(square_of(v * (s / 64)))
 }
 
@@ -84,6 +124,11 @@ pub fn scaled_squares(v: u64, w: u64, s: u64) -> Squares
     requires { ⌜ (s % 64 ≡ 0) × (v * s < 2 ^ 70) × (w * s < 2 ^ 70) ⌝ }
     ensures { λ r. ⌜ SquareRooted (v * s) (r .one .root) (r .one .rest) × SquareRooted (w * s) (r .two .root) (r .two .rest) ⌝ }
 {
+    if wide::high(v, s) == 0 {
+        if wide::high(w, s) == 0 {
+            return squares_of(v * s, w * s);
+        }
+    }
     let part = s / 64;
     let t = squares_of(v * part, w * part);
     Squares {

@@ -86,7 +86,19 @@ fn reduced(x: u64, y: u64, d: u64) -> Divided
     }
 }
 
-// a * b by d. Where the product passes a word, a is taken apart as a / d * d + a % d.
+// a * b by d, a being taken apart as a / d * d + a % d: for a product that passes a word.
+fn parts_by(a: u64, b: u64, d: u64) -> Divided
+    requires { ⌜ (0 < d) × (a * b / d < 2 ^ 64) ⌝ }
+    ensures { λ t. ⌜ Split (a * b) d (t .quotient) (t .rest) ⌝ }
+{
+    let t = reduced(a % d, b, d);
+    Divided {
+        quotient: a / d * b + t.quotient,
+        rest: t.rest,
+    }
+}
+
+// a * b by d.
 pub fn product_by(a: u64, b: u64, d: u64) -> Divided
     requires { ⌜ (0 < d) × (a * b / d < 2 ^ 64) ⌝ }
     ensures { λ t. ⌜ Split (a * b) d (t .quotient) (t .rest) ⌝ }
@@ -98,11 +110,7 @@ pub fn product_by(a: u64, b: u64, d: u64) -> Divided
             rest: n % d,
         };
     }
-    let t = reduced(a % d, b, d);
-    Divided {
-        quotient: a / d * b + t.quotient,
-        rest: t.rest,
-    }
+    parts_by(a, b, d)
 }
 
 // a * b / d rounded down.
@@ -113,12 +121,17 @@ pub fn floor_of(a: u64, b: u64, d: u64) -> u64
     product_by(a, b, d).quotient
 }
 
-// a * b / d rounded up.
+// a * b / d rounded up: one more than (a * b - 1) / d, but 0 of 0. A remainder would take longer.
 pub fn ceil_of(a: u64, b: u64, d: u64) -> u64
     requires { ⌜ (0 < d) × (ceilDiv (a * b) d < 2 ^ 64) ⌝ }
     ensures { λ r. ⌜ r ≡ ceilDiv (a * b) d ⌝ }
 {
-    let t = product_by(a, b, d);
+    if high(a, b) == 0 {
+        let n = a * b;
+        let one = pick(n == 0, 0, 1);
+        return (n - one) / d + one;
+    }
+    let t = parts_by(a, b, d);
     if t.rest == 0 {
         t.quotient
     } else {

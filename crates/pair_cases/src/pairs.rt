@@ -60,6 +60,15 @@ fn root(p: Pair, s: u64) -> Outcome {
     Outcome::NotApplied
 }
 
+fn roots(p: Pair, q: Pair, s: u64) -> Outcome {
+    if pair_checked::root_fits(p, s) {
+        if pair_checked::root_fits(q, s) {
+            return Outcome::TwoEnds(p.roots(q, s));
+        }
+    }
+    Outcome::NotApplied
+}
+
 fn cube_root(p: Pair, s: u64) -> Outcome {
     if pair_checked::cube_root_fits(p, s) {
         return Outcome::Ends(p.cube_root(s));
@@ -85,6 +94,7 @@ pub fn run(letter: u8, o: Operands) {
         b'x' => print::line(b"times_ratio", times_ratio(p, c, d, s)),
         b'y' => print::line(b"over_ratio", over_ratio(p, c, d, s)),
         b'r' => print::line(b"root", root(p, c)),
+        b'R' => print::line(b"roots", roots(p, q, s)),
         b'c' => print::line(b"cube_root", cube_root(p, c)),
         _ => {}
     }

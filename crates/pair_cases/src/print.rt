@@ -1,6 +1,7 @@
 // What a case prints.
 use libc::STDOUT_FILENO;
 use pair::Pair;
+use pair::TwoPairs;
 use pair::signed::Integer;
 use pair::signed::Signed;
 
@@ -11,6 +12,7 @@ pub enum Outcome {
     Whole(u64),
     Rooted(u64, u64),
     Ends(Pair),
+    TwoEnds(TwoPairs),
     Integer(Integer),
     SignedEnds(Signed),
 }
@@ -37,6 +39,10 @@ fn two(a: u64, b: u64) {
     number(b);
 }
 
+fn ends(p: Pair) {
+    two(p.lo, p.hi);
+}
+
 fn truth(holds: bool) {
     if holds {
         number(1);
@@ -60,7 +66,11 @@ pub fn line(name: &[u8], outcome: Outcome) {
         Outcome::Truth(holds) => truth(holds),
         Outcome::Whole(n) => number(n),
         Outcome::Rooted(root, rest) => two(root, rest),
-        Outcome::Ends(p) => two(p.lo, p.hi),
+        Outcome::Ends(p) => ends(p),
+        Outcome::TwoEnds(t) => {
+            ends(t.one);
+            ends(t.two);
+        }
         Outcome::Integer(z) => integer(z),
         Outcome::SignedEnds(a) => signed(a),
     }

@@ -16,7 +16,7 @@ use Rattle.section.specs.Working.{S, constant, units, k, k-at, k-past}
 use Rattle.section.proofs.Ends.{scale-positive, finer, own-fine, constant-exact, constant-inside, units-finer}
 use Rattle.section.proofs.Rising.{Rises, same-rises, plus-more, rising}
 use Rattle.section.proofs.BoxRooms.{constant-box}
-use Rattle.section.proofs.CoefficientForms.{past-box}
+use Rattle.section.proofs.CoefficientForms.{past-box, past-rises}
 
 at-ordered : (q : ℕ) → Ordered (q to q)
 at-ordered q = record { ends = le-refl q }
@@ -26,10 +26,6 @@ at-ordered q = record { ends = le-refl q }
 past-inside : {n m : ℕ} {Q q : Pair} → 0 < n → 0 < m → Inside m Q q → Inside m (k-past (m * n) Q) (k-past n q)
 unfolding k-past
 past-inside n⁺ m⁺ i = search (inside, finer, constant-exact, lit<) depth 20
-
-past-rises : {n : ℕ} {q q′ : Pair} → 0 < n → Rises q q′ → Rises (k-past n q) (k-past n q′)
-unfolding k-past
-past-rises n⁺ r = search (rising, scale-positive) depth 20
 
 past-least : {n : ℕ} {q : Pair} → 0 < n → Ordered q → Rises (constant n 1 2) (k-past n q)
 unfolding k-past

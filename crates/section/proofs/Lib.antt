@@ -4,6 +4,8 @@ pub mod Shares
 pub mod Factor
 pub mod Rising
 pub mod CoefficientForms
+pub mod RoundForms
+pub mod SamePairs
 pub mod Coefficient
 pub mod Formulas
 pub mod Whole

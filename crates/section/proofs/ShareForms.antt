@@ -1,14 +1,20 @@
--- ρ at one end, as the code works it: dividing twice by u, where nothing passes a word.
-use mathlib.Core.Path.{_≡_, ap, _∙_}
+-- ρ at one end, as the code works it: nothing that it forms passes a word; and ρ of a u² up to the square of the limit.
+use mathlib.Core.Path.{_≡_, refl, ap, _∙_}
 use Prim.Native.Nat.{ℕ, _-_, _*_, _/_, _^_, _≤_, _<_, min}
-use native.Mathlib.Nat.{lt-of-le-of-lt, mul-assoc, mul-one, mul-le-mul, mul-le-mul-right, mul-le-mul-left, div-div-eq-div-mul, div-le-of-le-mul, sub-le}
+use native.Mathlib.Nat.{lt-of-le-of-lt, mul-assoc, mul-le-mul, mul-le-mul-right, mul-le-mul-left, div-le-of-le-mul, sub-le}
 use native.Mathlib.Omega.{arith}
 use borrow.Author.Tests.{le-leb, lt-leb}
+use lib.Dec.{lit<}
 use Rattle.pair.specs.Rounding.{ceilDiv}
-use Rattle.pair.proofs.Quotients.{ceil-le, ceil-twice}
-use Rattle.section.specs.Working.{S, units, ρ-down, ρ-up}
-use Rattle.section.specs.Room.{Share}
+use Rattle.pair.specs.Pairs.{_to_, root}
+use Rattle.pair.specs.Enclosure.{Inside}
+use Rattle.pair.specs.declared.Pair.{Pair}
+use Rattle.pair.proofs.Quotients.{ceil-le}
+use Rattle.pair.proofs.Bounds.{root-at-most}
+use Rattle.section.specs.Working.{S, whole, units, ρ-down, ρ-up, ρ, ρ-plane, ρ-lip}
+use Rattle.section.specs.Room.{Fine, Share, Slim}
 use Rattle.section.proofs.Ends.{scale-most, scale-square-most}
+use Rattle.section.proofs.BoxRooms.{constant-box}
 
 module _ {n limit less u : ℕ} (r : Share n limit less u) where
   pub dividend-fits : (u - less) * S n < 2 ^ 64
@@ -18,17 +24,23 @@ module _ {n limit less u : ℕ} (r : Share n limit less u) where
   below-square : (u - less) * S n * S n ≤ S n * S n * u
   below-square = omega (arith, mul-le-mul-right (S n * S n) (sub-le u less))
 
-  pub once-down : limit < u → (0 < u) × ((u - less) * S n * S n / u < 2 ^ 64)
-  once-down h =
-      (omega arith, lt-of-le-of-lt {m = S n * S n} (div-le-of-le-mul u (omega (arith, below-square))) (omega (arith, scale-square-most (r .fine))))
+  pub square-fits : u * u < 2 ^ 64
+  square-fits =
+      lt-of-le-of-lt (mul-le-mul {n₁ = u} {m₁ = u} {n₂ = 400000000} {m₂ = 400000000} (omega (arith, r .most, r .fine .most)) (omega (arith, r .most, r .fine .most))) (omega arith)
 
-  pub once-up : limit < u → (0 < u) × (ceilDiv ((u - less) * S n * S n) u < 2 ^ 64)
-  once-up h = (omega arith, lt-of-le-of-lt (ceil-le (omega arith) below-square) (omega (arith, scale-square-most (r .fine))))
+  -- what is divided is at most S × S times what divides it
+  square-positive : limit < u → 0 < u * u
+  square-positive h = mul-le-mul {n₁ = 1} {m₁ = 1} {n₂ = u} {m₂ = u} (omega arith) (omega arith)
 
-  pub again-up : limit < u → {once : ℕ} → once ≡ ceilDiv ((u - less) * S n * S n) u → (0 < u) × (ceilDiv (once * 1) u < 2 ^ 64)
-  again-up h {once} e =
-      let once-most : once ≤ S n * S n = rw e (ceil-le (omega arith) below-square) in
-      (omega arith, lt-of-le-of-lt (ceil-le {x = once} (omega arith) (omega (arith, mul-le-mul-left {m = 1} {n = u} once (omega arith)))) (omega (arith, scale-square-most (r .fine))))
+  by-square : limit < u → (u - less) * S n * S n ≤ S n * S n * (u * u)
+  by-square h = omega (arith, below-square, mul-le-mul-left {m = u} {n = u * u} (S n * S n) (omega (arith, mul-le-mul-left {m = 1} {n = u} u (omega arith))))
+
+  pub down-fits : limit < u → (0 < u * u) × ((u - less) * S n * S n / (u * u) < 2 ^ 64)
+  down-fits h =
+      (square-positive h, lt-of-le-of-lt {m = S n * S n} (div-le-of-le-mul (u * u) (omega (arith, by-square h))) (omega (arith, scale-square-most (r .fine))))
+
+  pub up-fits : limit < u → (0 < u * u) × (ceilDiv ((u - less) * S n * S n) (u * u) < 2 ^ 64)
+  up-fits h = (square-positive h, lt-of-le-of-lt (ceil-le (square-positive h) (by-square h)) (omega (arith, scale-square-most (r .fine))))
 
   pub full-down : u ≤ limit → S n ≡ ρ-down n limit less u
   unfolding ρ-down
@@ -38,19 +50,17 @@ module _ {n limit less u : ℕ} (r : Share n limit less u) where
   unfolding ρ-up
   full-up h = rw (le-leb u limit h)
 
-  pub share-down-is : limit < u → {once x : ℕ} → once ≡ (u - less) * S n * S n / u → x ≡ min (S n) (once / u) → x ≡ ρ-down n limit less u
+  pub share-down-is : limit < u → {y x : ℕ} → y ≡ (u - less) * S n * S n / (u * u) → x ≡ min (S n) y → x ≡ ρ-down n limit less u
   unfolding ρ-down
-  share-down-is h {once} e f =
+  share-down-is h e f =
       rw (lt-leb u limit h)
-      (f ∙ ap (λ (y : ℕ). min (S n) y) (ap (λ (y : ℕ). y / u) e ∙ div-div-eq-div-mul ((u - less) * S n * S n) u u ∙ ap (λ (y : ℕ). y / (u * u)) (mul-assoc (u - less) (S n) (S n))))
+      (f ∙ ap (λ (y : ℕ). min (S n) y) (e ∙ ap (λ (y : ℕ). y / (u * u)) (mul-assoc (u - less) (S n) (S n))))
 
-  pub share-up-is : limit < u → {once again x : ℕ} → once ≡ ceilDiv ((u - less) * S n * S n) u → again ≡ ceilDiv (once * 1) u → x ≡ min (S n) again → x ≡ ρ-up n limit less u
+  pub share-up-is : limit < u → {y x : ℕ} → y ≡ ceilDiv ((u - less) * S n * S n) (u * u) → x ≡ min (S n) y → x ≡ ρ-up n limit less u
   unfolding ρ-up
-  share-up-is h {once} {again} e e′ f =
-      let u⁺ : 0 < u = omega arith in
+  share-up-is h e f =
       rw (lt-leb u limit h)
-      (f ∙ ap (λ (y : ℕ). min (S n) y)
-      (e′ ∙ ap (λ (y : ℕ). ceilDiv y u) (mul-one once ∙ e) ∙ ceil-twice ((u - less) * S n * S n) u u u⁺ u⁺ ∙ ap (λ (y : ℕ). ceilDiv y (u * u)) (mul-assoc (u - less) (S n) (S n))))
+      (f ∙ ap (λ (y : ℕ). min (S n) y) (e ∙ ap (λ (y : ℕ). ceilDiv y (u * u)) (mul-assoc (u - less) (S n) (S n))))
 
 -- the limits and the numbers taken off, in units
 pub units-673 : (n : ℕ) → n * 673000 ≡ units n 673 1000
@@ -64,3 +74,37 @@ units-748 n = omega arith
 
 pub units-188 : (n : ℕ) → n * 188000 ≡ units n 188 1000
 units-188 n = omega arith
+
+-- a width whose u² is not above the limit's square counts in full
+
+one-is : {n : ℕ} → Fine n → whole n 1 ≡ (S n to S n)
+one-is {n} f =
+    let b : Inside n (whole n 1) (1000000 to 1000000) = constant-box f 1 1 1000000 (lit< tt) refl in
+    λ i. record { lo = low b i; hi = high b i }
+  where
+    low : {p : Pair} → Inside n p (1000000 to 1000000) → p .lo ≡ S n
+    low b = omega (arith, b .low, b .mid, b .high)
+
+    high : {p : Pair} → Inside n p (1000000 to 1000000) → p .hi ≡ S n
+    high b = omega (arith, b .low, b .mid, b .high)
+
+module _ {n : ℕ} (x : Pair) (slim : Slim n (root (S n) x)) where
+  root-most : (limit square : ℕ) → limit * limit ≡ square * 1000000 → x .hi ≤ n * square → (root (S n) x) .hi ≤ n * limit
+  root-most limit square e h =
+      root-at-most (S n) (n * limit) {a = n * square} (record { high = h }) (omega (arith, ap (λ (y : ℕ). n * n * y) e)) .high
+
+  -- the limit and its square in millionths, then in units the limit and what is taken off
+  full-share : (limit square : ℕ) → limit * limit ≡ square * 1000000 → x .hi ≤ n * square
+      → (l less : ℕ) → n * limit ≡ l → whole n 1 ≡ ρ n l less (root (S n) x)
+  unfolding ρ ρ-down ρ-up
+  full-share limit square e h l less g =
+      let most : (root (S n) x) .hi ≤ n * limit = root-most limit square e h in
+      rw (le-leb ((root (S n) x) .hi) l (omega arith), le-leb ((root (S n) x) .lo) l (omega (arith, slim .order))) (one-is (slim .fine))
+
+  pub full-plane : x .hi ≤ n * 452929 → whole n 1 ≡ ρ-plane n (root (S n) x)
+  unfolding ρ-plane
+  full-plane h = full-share 673000 452929 refl h (units n 673 1000) (units n 22 100) (units-673 n)
+
+  pub full-lip : x .hi ≤ n * 559504 → whole n 1 ≡ ρ-lip n (root (S n) x)
+  unfolding ρ-lip
+  full-lip h = full-share 748000 559504 refl h (units n 748 1000) (units n 188 1000) (units-748 n)

@@ -15,7 +15,7 @@ use Rattle.section.specs.Working.{S, mm, whole, stiffener-of, g, J, T, k
 use Rattle.section.specs.Room.{Fine, FactorRoom, FactorsRoom, Factor, Steady, EffectiveRoom}
 use Rattle.section.proofs.Factor.{χ-box}
 use Rattle.section.proofs.Ends.{scale}
-use Rattle.section.proofs.CoefficientForms.{one-factor, factors-most}
+use Rattle.section.proofs.RoundForms.{one-factor, factors-most}
 use Rattle.section.proofs.KeptBoxes.{KeptBox}
 use Rattle.section.proofs.BoxRooms.{wider, factor-box, box-factor, box-slim, over-room}
 use Rattle.section.proofs.SheetNumbers.{FlangeNumbers, SectionNumbers}

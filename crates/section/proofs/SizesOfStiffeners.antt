@@ -189,6 +189,7 @@ module _ (n : ℕ) where
     unfolding T
     stress-room = record {
       fine = f;
+      core = x .thick;
       force = by-times f (s .a) fyb 1 (lit< tt) refl force-box (omega arith);
       thick = over-by f _ t 100 (omega arith) (lit< tt) refl thick-box (lit≤ tt);
       modulus = over-by f _ 210 1 (lit< tt) (lit< tt) refl T-box (lit≤ tt);

@@ -104,7 +104,6 @@ module _ {n : ℕ} (f : Fine n) where
     pub flange-room : FlangeRoom n t fyb cp bp
     flange-room = record {
       fine = f;
-      four = ratio-room f 4 1 (lit< tt) (lit≤ tt);
       plane = slender-room f flange-plane bp-box (whole-box f 4);
       quotient = over-room f cp bp (omega arith) bp-box q-box (lit≤ tt);
       ratio = record { fine = f; order = q-box .mid; most = q-box .high };
@@ -132,7 +131,6 @@ module _ {n : ℕ} (f : Fine n) where
     pub web-kept-room : WebKeptRoom n t fyb hp
     web-kept-room = record {
       fine = f;
-      four = ratio-room f 4 1 (lit< tt) (lit≤ tt);
       slender = slender-room f web-plane hp-box (whole-box f 4);
       radicand = root-room f web-box (lit≤ tt);
       slim = box-slim f u-box (lit≤ tt);

@@ -87,7 +87,6 @@ module _ (n : ℕ) where
 
   pub record FlangeRoom (t fyb : ℕ) (cp bp : Pair) : Type 0 where
     pub fine : Fine n
-    pub four : ratioFits (S n) 4 1 ≡ true
     pub plane : SlenderRoom t fyb (c 4 1) bp
     pub quotient : overFits (S n) cp bp ≡ true
     pub ratio : LipRatio (cp ⊘ bp)
@@ -150,6 +149,7 @@ module _ (n : ℕ) where
 
   pub record StressRoom (t fyb : ℕ) (a : Pair) : Type 0 where
     pub fine : Fine n
+    pub core : t ≤ 600
     pub force : timesRatioFits (S n) a fyb 1 ≡ true
     pub thick : overRatioFits (S n) (c fyb 1 ⊗ a) t 100 ≡ true
     pub modulus : overRatioFits (S n) (c fyb 1 ⊗ a ⊘ mm n t) 210 1 ≡ true
@@ -298,7 +298,6 @@ module _ (n : ℕ) where
 
   pub record WebKeptRoom (t fyb : ℕ) (hp : Pair) : Type 0 where
     pub fine : Fine n
-    pub four : ratioFits (S n) 4 1 ≡ true
     pub slender : SlenderRoom t fyb (c 4 1) hp
     pub radicand : rootFits (S n) (u² n (mm n t) (c fyb 1) (c 4 1) hp) ≡ true
     pub slim : Slim (root (S n) (u² n (mm n t) (c fyb 1) (c 4 1) hp))

@@ -32,11 +32,15 @@ fn coefficient_at(n: u64, q: u64) -> Pair
     coefficient_past(n, Pair { lo: q, hi: q })
 }
 
-// End by end: it rises with q.
+// End by end: it rises with q. Past 0.35 each end of the formula rests on the same end of q, so it is
+// worked once for both.
 pub fn coefficient(n: u64, q: Pair) -> Pair
     requires { ⌜ LipRatio n q ⌝ }
     ensures { λ r. ⌜ r ≡ k n q ⌝ }
 {
+    if n * 350_000 < q.lo {
+        return coefficient_past(n, q);
+    }
     let low = coefficient_at(n, q.lo);
     let high = coefficient_at(n, q.hi);
     Pair {

@@ -2,10 +2,14 @@
 // falls, so its lower end comes from the upper end. (Document 01, "Widths and slenderness" and
 // "Stiffener of each flange".)
 use pair::Pair;
+use pair::TwoPairs;
 use pair::wide;
 ghost use mathlib.Core.Path.{_≡_};
+ghost use mathlib.Core.Bool.{true};
 ghost use Prim.Native.Nat.{_*_, _≤_, _<_, min, max};
-ghost use Rattle.section.specs.Working.{ρ-down, ρ-up, ρ-plane, ρ-lip, χ-before-down, χ-before-up, χ-from-down, χ-from-up, χ};
+ghost use Rattle.pair.specs.Pairs.{root};
+ghost use Rattle.pair.specs.Fits.{rootFits};
+ghost use Rattle.section.specs.Working.{S, ρ-down, ρ-up, ρ-plane, ρ-lip, χ-before-down, χ-before-up, χ-from-down, χ-from-up, χ};
 ghost use Rattle.section.specs.Room.{Fine, Share, Slim};
 
 fn smaller(a: u64, b: u64) -> u64
@@ -20,7 +24,7 @@ fn larger(a: u64, b: u64) -> u64
     if a < b { b } else { a }
 }
 
-// (u - less) / u² rounded down, dividing by u twice: 1 up to the limit.
+// (u - less) / u² rounded down: 1 up to the limit.
 fn share_down(n: u64, limit: u64, less: u64, u: u64) -> u64
     requires { ⌜ Share n limit less u ⌝ }
     ensures { λ r. ⌜ r ≡ ρ-down n limit less u ⌝ }
@@ -29,8 +33,7 @@ fn share_down(n: u64, limit: u64, less: u64, u: u64) -> u64
     if u <= limit {
         return s;
     }
-    let once = wide::floor_of((u - less) * s, s, u);
-    smaller(s, once / u)
+    smaller(s, wide::floor_of((u - less) * s, s, u * u))
 }
 
 // The same rounded up.
@@ -42,8 +45,7 @@ fn share_up(n: u64, limit: u64, less: u64, u: u64) -> u64
     if u <= limit {
         return s;
     }
-    let once = wide::ceil_of((u - less) * s, s, u);
-    smaller(s, wide::ceil_of(once, 1, u))
+    smaller(s, wide::ceil_of((u - less) * s, s, u * u))
 }
 
 // The part of a web or flange that counts.
@@ -70,6 +72,26 @@ pub fn lip_share(n: u64, u: Pair) -> Pair
         lo: share_down(n, limit, less, u.hi),
         hi: share_up(n, limit, less, u.lo),
     }
+}
+
+// The parts of a flange and of its lip that count, from u² of each. Up to 0.673² and 0.748² both count
+// in full, and no root is worked; else both roots are worked side by side.
+pub fn shares(n: u64, plane: Pair, lip: Pair) -> TwoPairs
+    requires { ⌜ (rootFits (S n) plane ≡ true) × (rootFits (S n) lip ≡ true) × Slim n (root (S n) plane) × Slim n (root (S n) lip) ⌝ }
+    ensures { λ r. ⌜ (r .one ≡ ρ-plane n (root (S n) plane)) × (r .two ≡ ρ-lip n (root (S n) lip)) ⌝ }
+{
+    let s = n * 1_000_000;
+    if plane.hi <= n * 452_929 && lip.hi <= n * 559_504 {
+        let full = Pair::ratio(1, 1, s);
+        return TwoPairs {
+            one: full,
+            two: full,
+        };
+    }
+    let u = plane.roots(lip, s);
+    let one = plane_share(n, u.one);
+    let two = lip_share(n, u.two);
+    TwoPairs { one, two }
 }
 
 // The thickness factor below 1.38: 1 up to 0.65, else at most 1.47 - 0.723 * u.

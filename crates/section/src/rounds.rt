@@ -9,28 +9,66 @@ use crate::stiffeners;
 use crate::widths;
 use pair::Pair;
 ghost use mathlib.Core.Path.{_≡_};
-ghost use mathlib.Core.Bool.{_&&_};
+ghost use mathlib.Core.Bool.{true, _&&_};
 ghost use Prim.Native.Nat.{_*_};
 ghost use lib.Dec.{eqb};
 ghost use Rattle.section.specs.Working.{flange-of, stiffener-of, J, T, D, ud⁴, factors, round, rounds, mm, whole};
 ghost use Rattle.section.specs.Room.{FlangeRoom, StiffenerRoom, FactorRoom, FactorsRoom, RoundRoom, Steady};
+
+// Whether two pairs have the same ends.
+fn same(p: Pair, q: Pair) -> bool
+    ensures { λ r. ⌜ r ≡ (eqb (p .lo) (q .lo) && eqb (p .hi) (q .hi)) ⌝ }
+{
+    p.lo == q.lo && p.hi == q.hi
+}
+
+// Whether two stiffeners are the same.
+fn same_stiffener(a: Stiffener, b: Stiffener) -> bool
+    ensures { λ r. ⌜ (r ≡ true → a ≡ b) × (a ≡ b → r ≡ true) ⌝ }
+{
+    same(a.be2, b.be2) && (same(a.c, b.c) && same(a.a, b.a))
+}
+
+// Whether two flanges are the same.
+fn alike(f: Flange, g: Flange) -> bool
+    ensures { λ r. ⌜ (r ≡ true → f ≡ g) × (f ≡ g → r ≡ true) ⌝ }
+{
+    same(f.bp, g.bp) && (same(f.plane, g.plane) && same(f.lip, g.lip))
+}
 
 // A flange of mid-line width bp with its lip.
 pub fn flange_of(n: u64, t: Core, fyb: u64, cp: Pair, bp: Pair) -> Flange
     requires { ⌜ FlangeRoom n (t .0) fyb cp bp ⌝ }
     ensures { λ r. ⌜ r ≡ flange-of n (mm n (t .0)) (whole n fyb) cp bp ⌝ }
 {
-    let s = n * 1_000_000;
-    let four = Pair::ratio(4, 1, s);
-    let plane = widths::slenderness_squared(n, t, fyb, four, bp);
-    let ratio = cp.over(bp, s);
+    let plane = widths::plane_slenderness_squared(n, t, fyb, bp);
+    let ratio = cp.over(bp, n * 1_000_000);
     let coefficient = coefficients::coefficient(n, ratio);
     let lip = widths::slenderness_squared(n, t, fyb, coefficient, cp);
     Flange { bp, plane, lip }
 }
 
+// The second flange, of mid-line width bp2, beside the first: the same where both are equally wide.
+pub fn second_flange(
+    n: u64,
+    t: Core,
+    fyb: u64,
+    cp: Pair,
+    bp1: Pair,
+    bp2: Pair,
+    f1: Flange,
+) -> Flange
+    requires { ⌜ FlangeRoom n (t .0) fyb cp bp2 × (f1 ≡ flange-of n (mm n (t .0)) (whole n fyb) cp bp1) ⌝ }
+    ensures { λ r. ⌜ r ≡ flange-of n (mm n (t .0)) (whole n fyb) cp bp2 ⌝ }
+{
+    if same(bp1, bp2) {
+        return f1;
+    }
+    flange_of(n, t, fyb, cp, bp2)
+}
+
 // be2 = 0.5 * rho * bp and c_eff = rho * cp, u² of plane and lip multiplied by the factor of the
-// round before; both roots are worked side by side.
+// round before.
 fn stiffener_of(n: u64, cp: Pair, f: Flange, before: Pair) -> Stiffener
     requires { ⌜ StiffenerRoom n cp f before ⌝ }
     ensures { λ r. ⌜ r ≡ stiffener-of n cp f before ⌝ }
@@ -39,11 +77,9 @@ fn stiffener_of(n: u64, cp: Pair, f: Flange, before: Pair) -> Stiffener
     let bp = f.bp;
     let plane = f.plane.times(before, s);
     let lip = f.lip.times(before, s);
-    let u = plane.roots(lip, s);
-    let plane_share = factors::plane_share(n, u.one);
-    let lip_share = factors::lip_share(n, u.two);
-    let be2 = widths::half_kept(n, plane_share, bp);
-    let c = lip_share.times(cp, s);
+    let shares = factors::shares(n, plane, lip);
+    let be2 = widths::half_kept(n, shares.one, bp);
+    let c = shares.two.times(cp, s);
     let a = be2.plus(c);
     Stiffener { be2, c, a }
 }
@@ -61,7 +97,7 @@ fn fourth_of(n: u64, t: Core, fyb: u64, hp: Pair, kf: Pair, g: Pair, o: Pair, s:
 
 // Both flanges' factors, from their stiffeners; one kf serves both, and both roots are worked side
 // by side.
-fn factors_of(
+fn unequal_factors(
     n: u64,
     t: Core,
     fyb: u64,
@@ -92,6 +128,65 @@ fn factors_of(
     }
 }
 
+// The factor of two equal flanges, worked once.
+fn equal_factors(n: u64, t: Core, fyb: u64, hp: Pair, bp: Pair, one: Stiffener) -> Round
+    requires { ⌜ FactorsRoom n (t .0) fyb hp bp bp one one ⌝ }
+    ensures { λ r. ⌜ r ≡ factors n (mm n (t .0)) (whole n fyb) hp bp bp one one ⌝ }
+{
+    let s = n * 1_000_000;
+    let g = stiffeners::centre(n, bp, one);
+    let kf = one.a.over(one.a, s);
+    let fourth = fourth_of(n, t, fyb, hp, kf, g, g, one);
+    let square = fourth.root(s);
+    let u = square.root(s);
+    let chi = factors::factor(n, u);
+    Round {
+        one,
+        two: one,
+        chi1: chi,
+        chi2: chi,
+    }
+}
+
+// Both flanges' factors, from their stiffeners.
+fn factors_of(
+    n: u64,
+    t: Core,
+    fyb: u64,
+    hp: Pair,
+    bp1: Pair,
+    bp2: Pair,
+    one: Stiffener,
+    two: Stiffener,
+) -> Round
+    requires { ⌜ FactorsRoom n (t .0) fyb hp bp1 bp2 one two ⌝ }
+    ensures { λ r. ⌜ r ≡ factors n (mm n (t .0)) (whole n fyb) hp bp1 bp2 one two ⌝ }
+{
+    if same(bp1, bp2) && same_stiffener(one, two) {
+        return equal_factors(n, t, fyb, hp, bp1, one);
+    }
+    unequal_factors(n, t, fyb, hp, bp1, bp2, one, two)
+}
+
+// The second flange's stiffener beside the first's: the same for equal flanges with equal factors.
+fn second_stiffener(
+    n: u64,
+    cp: Pair,
+    f1: Flange,
+    f2: Flange,
+    chi1: Pair,
+    chi2: Pair,
+    one: Stiffener,
+) -> Stiffener
+    requires { ⌜ StiffenerRoom n cp f2 chi2 × (one ≡ stiffener-of n cp f1 chi1) ⌝ }
+    ensures { λ r. ⌜ r ≡ stiffener-of n cp f2 chi2 ⌝ }
+{
+    if alike(f1, f2) && same(chi1, chi2) {
+        return one;
+    }
+    stiffener_of(n, cp, f2, chi2)
+}
+
 // One round, from both flanges' factors of the round before.
 fn one_round(
     n: u64,
@@ -110,7 +205,34 @@ fn one_round(
     let bp1 = f1.bp;
     let bp2 = f2.bp;
     let one = stiffener_of(n, cp, f1, chi1);
-    let two = stiffener_of(n, cp, f2, chi2);
+    let two = second_stiffener(n, cp, f1, f2, chi1, chi2, one);
+    factors_of(n, t, fyb, hp, bp1, bp2, one, two)
+}
+
+// The round behind another. Where both stiffeners stay, it is the same round.
+fn next_round(
+    n: u64,
+    t: Core,
+    fyb: u64,
+    hp: Pair,
+    cp: Pair,
+    f1: Flange,
+    f2: Flange,
+    last: Round,
+) -> Round
+    requires { ⌜ RoundRoom n (t .0) fyb hp cp f1 f2 (last .chi1) (last .chi2) ⌝ }
+    requires { ⌜ last ≡ factors n (mm n (t .0)) (whole n fyb) hp (f1 .bp) (f2 .bp) (last .one) (last .two) ⌝ }
+    ensures { λ r. ⌜ r ≡ round n (mm n (t .0)) (whole n fyb) hp cp f1 f2 (last .chi1) (last .chi2) ⌝ }
+{
+    let bp1 = f1.bp;
+    let bp2 = f2.bp;
+    let chi1 = last.chi1;
+    let chi2 = last.chi2;
+    let one = stiffener_of(n, cp, f1, chi1);
+    let two = second_stiffener(n, cp, f1, f2, chi1, chi2, one);
+    if same_stiffener(one, last.one) && same_stiffener(two, last.two) {
+        return last;
+    }
     factors_of(n, t, fyb, hp, bp1, bp2, one, two)
 }
 
@@ -121,13 +243,6 @@ pub fn first_round(n: u64, t: Core, fyb: u64, hp: Pair, cp: Pair, f1: Flange, f2
 {
     let one = Pair::ratio(1, 1, n * 1_000_000);
     one_round(n, t, fyb, hp, cp, f1, f2, one, one)
-}
-
-// Whether two pairs have the same ends.
-fn same(p: Pair, q: Pair) -> bool
-    ensures { λ r. ⌜ r ≡ (eqb (p .lo) (q .lo) && eqb (p .hi) (q .hi)) ⌝ }
-{
-    p.lo == q.lo && p.hi == q.hi
 }
 
 // As many refining rounds as the sheet says, from the first working. A round that leaves both factors
@@ -151,7 +266,7 @@ pub fn refined(
     while i < times {
         let chi1 = r.chi1;
         let chi2 = r.chi2;
-        r = one_round(n, t, fyb, hp, cp, f1, f2, chi1, chi2);
+        r = next_round(n, t, fyb, hp, cp, f1, f2, r);
         if same(r.chi1, chi1) && same(r.chi2, chi2) {
             return r;
         }

@@ -33,10 +33,8 @@ fn web_kept(n: u64, t: Core, fyb: u64, hp: Pair) -> Pair
     requires { ⌜ WebKeptRoom n (t .0) fyb hp ⌝ }
     ensures { λ r. ⌜ r ≡ half-kept n (ρ-plane n (root (S n) (u² n (mm n (t .0)) (whole n fyb) (whole n 4) hp))) hp ⌝ }
 {
-    let s = n * 1_000_000;
-    let four = Pair::ratio(4, 1, s);
-    let square = widths::slenderness_squared(n, t, fyb, four, hp);
-    let u = square.root(s);
+    let square = widths::plane_slenderness_squared(n, t, fyb, hp);
+    let u = square.root(n * 1_000_000);
     let share = factors::plane_share(n, u);
     widths::half_kept(n, share, hp)
 }
@@ -135,7 +133,7 @@ fn effective_of(n: u64, q: Sheet, l: Lines) -> Kept
     let bp1 = l.bp1;
     let bp2 = l.bp2;
     let f1 = rounds::flange_of(n, t, q.fyb, cp, bp1);
-    let f2 = rounds::flange_of(n, t, q.fyb, cp, bp2);
+    let f2 = rounds::second_flange(n, t, q.fyb, cp, bp1, bp2, f1);
     effective_section(n, t, q.fyb, hp, cp, f1, f2, q.rounds)
 }
 

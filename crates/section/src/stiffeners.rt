@@ -72,7 +72,7 @@ pub fn inertia(n: u64, t: Core, s: Stiffener) -> Pair
     sum.plus(far)
 }
 
-// T = fyb * a / t / 210.
+// T = fyb * a / t / 210: divided once, since rounding twice one way is rounding once.
 pub fn stress(n: u64, t: Core, fyb: u64, s: Stiffener) -> Pair
     requires { ⌜ StressRoom n (t .0) fyb (s .a) ⌝ }
     ensures { λ r. ⌜ r ≡ T n (mm n (t .0)) (whole n fyb) s ⌝ }
@@ -80,8 +80,7 @@ pub fn stress(n: u64, t: Core, fyb: u64, s: Stiffener) -> Pair
     let a = s.a;
     let scale = n * 1_000_000;
     let force = widths::constant_times(n, fyb, 1, a);
-    let thick = force.over_ratio(t.0, 100, scale);
-    thick.over_ratio(210, 1, scale)
+    force.over_ratio(210 * t.0, 100, scale)
 }
 
 // 0.5 * g * o * hp * kf.

@@ -8,7 +8,8 @@ ghost use mathlib.Core.Path.{_≡_};
 ghost use Prim.Native.Nat.{_*_, _^_, _≤_, _<_};
 ghost use mathlib.Core.Bool.{true};
 ghost use Rattle.pair.specs.Fits.{timesRatioFits};
-ghost use Rattle.section.specs.Working.{S, constant, _⊗_, mid-line, lip-line, u², half-kept, mm, whole};
+ghost use Rattle.pair.specs.declared.Pair.{Pair};
+ghost use Rattle.section.specs.Working.{S, constant, _⊗_, _⊘_, mid-line, lip-line, u², half-kept, mm, whole};
 ghost use Rattle.section.specs.Room.{Fine, MidRoom, LipRoom, SlenderRoom, HalfRoom};
 
 // a / b times p, the constant first as the paper writes it.
@@ -42,17 +43,35 @@ pub fn lip_line(n: u64, c: u64, tnom: Nominal) -> Pair
     outer.minus(half)
 }
 
-// u² = (w / t) * (w / t) * fyb / 189541.6 / k, of a plane of width w.
-pub fn slenderness_squared(n: u64, t: Core, fyb: u64, coefficient: Pair, w: Pair) -> Pair
-    requires { ⌜ SlenderRoom n (t .0) fyb coefficient w ⌝ }
-    ensures { λ r. ⌜ r ≡ u² n (mm n (t .0)) (whole n fyb) coefficient w ⌝ }
+// (w / t) * (w / t) * fyb / 189541.6, of a plane of width w: u² times its buckling coefficient.
+// It has room where u² has room with some coefficient k.
+fn yield_over_euler(n: u64, t: Core, fyb: u64, w: Pair) -> Pair
+    requires { ⌜ ((k : Pair) × SlenderRoom n (t .0) fyb k w) ⌝ }
+    ensures { λ r. ⌜ r ≡ _⊘_ n (_⊗_ n (_⊗_ n (_⊘_ n w (mm n (t .0))) (_⊘_ n w (mm n (t .0)))) (whole n fyb)) (constant n 1895416 10) ⌝ }
 {
     let s = n * 1_000_000;
     let ratio = w.over_ratio(t.0, 100, s);
     let square = ratio.times(ratio, s);
     let yielding = square.times_ratio(fyb, 1, s);
-    let modulus = yielding.over_ratio(1_895_416, 10, s);
-    modulus.over(coefficient, s)
+    yielding.over_ratio(1_895_416, 10, s)
+}
+
+// u² = (w / t) * (w / t) * fyb / 189541.6 / k, of a plane of width w.
+pub fn slenderness_squared(n: u64, t: Core, fyb: u64, coefficient: Pair, w: Pair) -> Pair
+    requires { ⌜ SlenderRoom n (t .0) fyb coefficient w ⌝ }
+    ensures { λ r. ⌜ r ≡ u² n (mm n (t .0)) (whole n fyb) coefficient w ⌝ }
+{
+    let product = yield_over_euler(n, t, fyb, w);
+    product.over(coefficient, n * 1_000_000)
+}
+
+// u² of a web or flange, whose coefficient is 4: an exact value, so the scale cancels.
+pub fn plane_slenderness_squared(n: u64, t: Core, fyb: u64, w: Pair) -> Pair
+    requires { ⌜ SlenderRoom n (t .0) fyb (whole n 4) w ⌝ }
+    ensures { λ r. ⌜ r ≡ u² n (mm n (t .0)) (whole n fyb) (whole n 4) w ⌝ }
+{
+    let product = yield_over_euler(n, t, fyb, w);
+    product.over_ratio(4, 1, n * 1_000_000)
 }
 
 // 0.5 * r * w.

@@ -60,8 +60,7 @@ pub fn web(n: u64, t: Core, fyb: u64, hp: Pair) -> Pair
     requires { ⌜ WebKeptRoom n (t .0) fyb hp ⌝ }
     ensures { λ r. ⌜ r ≡ half-kept n (ρ-plane n (root (S n) (u² n (mm n (t .0)) (whole n fyb) (whole n 4) hp))) hp ⌝ }
 {
-    let four = Pair::ratio(4, 1, n * 1_000_000);
-    let square = widths::slenderness_squared(n, t, fyb, four, hp);
+    let square = widths::plane_slenderness_squared(n, t, fyb, hp);
     let share = plane(n, When::Outside, b"web", square);
     widths::half_kept(n, share, hp)
 }

@@ -1,19 +1,20 @@
 -- Numbers in decimal: by the last digit, their length, and how the code writes them.
 use Prim.Native.Nat.{ℕ, zero, suc, _+_, _/_, _%_, _^_, _≤_, _<_}
 use mathlib.Core.Bool.{Bool, true, false}
-use mathlib.Core.List.{List, [], _∷_, _++_}
+use mathlib.Core.List.{List, [], _∷_, _++_, append-assoc}
 use mathlib.Core.Path.{_≡_, refl, sym, ap, _∙_}
 use native.Mathlib.Omega.{arith}
+use native.Mathlib.Numerals.{add-one}
 use borrow.Author.Tests.{lt-ltb, le-ltb, ltb-true, ltb-false}
 use lib.Dec.{ltb}
 use lib.IntN.{ℤ, pos, negsuc, negℤ, natAbs}
-use lib.ListN.{length, set}
+use lib.ListN.{length, drop, set}
 use Rattle.pair.specs.SignedPairs.{integer}
 use Rattle.pair.specs.declared.signed.Integer.{Integer}
 use Rattle.pair.proofs.IntegerForms.{integer-size}
 use Rattle.text.specs.Decimal.{digit0, minus, digitsIn, decimal, negative, integerText}
 use Rattle.text.specs.Lines.{over}
-use Rattle.text.proofs.LentParts.{length-snoc, over-first, over-set}
+use Rattle.text.proofs.LentParts.{length-snoc, over-first}
 
 -- a number below ten is one digit, however many steps are allowed
 in-small : (k n : ℕ) → n < 10 → digitsIn k n ≡ (digit0 + n) ∷ []
@@ -62,14 +63,73 @@ decimal-length (suc k) n h = go (ltb n 10) refl (decimal-length k (n / 10))
     go true e r = omega (arith, length-small n (ltb-true n 10 e))
     go false e r = omega (arith, length-step n (ltb-false n 10 e), r (omega arith))
 
+power-positive : (k : ℕ) → 0 < 10 ^ k
+power-positive zero = omega arith
+power-positive (suc k) = omega (arith, power-positive k)
+
+-- a number from 10 ^ k on has more than k digits
+more-digits : (k n : ℕ) → 10 ^ k ≤ n → k < length (decimal n)
+more-digits zero n h = go (ltb n 10) refl
+  where
+    go : (b : Bool) → ltb n 10 ≡ b → 0 < length (decimal n)
+    go true e = omega (arith, length-small n (ltb-true n 10 e))
+    go false e = omega (arith, length-step n (ltb-false n 10 e))
+more-digits (suc k) n h =
+    let one : 0 < 10 ^ k = power-positive k in
+    omega (arith, length-step n (omega arith), more-digits k (n / 10) (omega arith))
+
+pub length-between : (k n : ℕ) → 10 ^ k ≤ n → n < 10 ^ suc k → suc k ≡ length (decimal n)
+length-between k n h g = omega (arith, decimal-length k n g, more-digits k n h)
+
+-- four digits at once
+pub length-four : (n : ℕ) → 10000 ≤ n → length (decimal n) ≡ length (decimal (n / 10000)) + 4
+length-four n h =
+    let same : n / 10 / 10 / 10 / 10 ≡ n / 10000 = omega arith in
+    omega (
+      arith,
+      length-step n (omega arith),
+      length-step (n / 10) (omega arith),
+      length-step (n / 10 / 10) (omega arith),
+      length-step (n / 10 / 10 / 10) (omega arith),
+      ap (λ (m : ℕ). length (decimal m)) same,
+    )
+
+-- the length tells whether a digit stands before the last
+pub one-digit : (n : ℕ) → length (decimal n) ≤ 1 → n < 10
+one-digit n h = go (ltb n 10) refl
+  where
+    go : (b : Bool) → ltb n 10 ≡ b → n < 10
+    go true e = ltb-true n 10 e
+    go false e = absurd (omega (arith, more-digits 1 n (ltb-false n 10 e)))
+
+pub digits-before : (n : ℕ) → 1 < length (decimal n) → 10 ≤ n
+digits-before n h = go (ltb n 10) refl
+  where
+    go : (b : Bool) → ltb n 10 ≡ b → 10 ≤ n
+    go true e = absurd (omega (arith, length-small n (ltb-true n 10 e)))
+    go false e = ltb-false n 10 e
+
 pub put-small : (n : ℕ) (b : List ℕ) → n < 10 → 0 < length b → set b 0 (digit0 + n) ≡ over (decimal n) b
 put-small n b h g = rw (decimal-small n h) (over-first (digit0 + n) b g)
 
-pub put-step : (n r : ℕ) (d b : List ℕ) → 10 ≤ n → length (decimal n) ≤ length b → r ≡ length (decimal (n / 10)) → d ≡ over (decimal (n / 10)) b
-    → set d r (digit0 + n % 10) ≡ over (decimal n) b
-put-step n r d b h k er ed =
-    ap (λ (l : List ℕ). set l r (digit0 + n % 10)) ed ∙ ap (λ (i : ℕ). set (over (decimal (n / 10)) b) i (digit0 + n % 10)) er
-    ∙ over-set (decimal (n / 10)) b (digit0 + n % 10) (omega (arith, length-step n h))
+store-drop : (b : List ℕ) (i x : ℕ) → i < length b → drop i (set b i x) ≡ x ∷ drop (suc i) b
+store-drop [] i x h = absurd (omega arith)
+store-drop (y ∷ b) zero x h = refl
+store-drop (y ∷ b) (suc i) x h = store-drop b i x (omega arith)
+
+-- a byte stored before the text t is written is a byte behind it
+over-store : (t b : List ℕ) (x : ℕ) → length t < length b → over t (set b (length t) x) ≡ over (t ++ (x ∷ [])) b
+unfolding over
+over-store t b x h =
+    ap (λ (l : List ℕ). t ++ l) (store-drop b (length t) x h)
+    ∙ sym (append-assoc t (x ∷ []) _ ∙ ap (λ (k : ℕ). t ++ (x ∷ drop k b)) (length-snoc t x ∙ add-one (length t)))
+
+-- the last digit stored, the digits before it are left to write
+pub put-last : (n i : ℕ) (b : List ℕ) → 10 ≤ n → length (decimal n) ≤ length b → i ≡ length (decimal (n / 10))
+    → over (decimal (n / 10)) (set b i (digit0 + n % 10)) ≡ over (decimal n) b
+put-last n i b h k ei =
+    ap (λ (j : ℕ). over (decimal (n / 10)) (set b j (digit0 + n % 10))) ei
+    ∙ over-store (decimal (n / 10)) b (digit0 + n % 10) (omega (arith, length-step n h))
     ∙ ap (λ (l : List ℕ). over l b) (sym (decimal-step n h))
 
 -- an integer is a minus, where it lies below zero, and its size

@@ -15,22 +15,34 @@ pub fn width(n: u64) -> usize
     if n < 10 {
         return 1;
     }
-    width(n / 10) + 1
+    if n < 100 {
+        return 2;
+    }
+    if n < 1000 {
+        return 3;
+    }
+    if n < 10_000 {
+        return 4;
+    }
+    width(n / 10_000) + 4
 }
 
-// Writes n at the start of out, and answers its length.
+// Writes n at the start of out, and answers its length: the digits from the last to the first.
 pub fn put_decimal(out: &mut [u8], n: u64) -> usize
     requires { ⌜ length (decimal n) ≤ length (now out) ⌝ }
     ensures { λ r. ⌜ r ≡ length (decimal n) ⌝ }
     ensures { λ _. ⌜ now (out .exit) ≡ over (decimal n) (now (out .entry)) ⌝ }
 {
-    if n < 10 {
-        out[0] = b'0' + n as u8;
-        return 1;
+    let k = width(n);
+    let mut left = n;
+    let mut at = k;
+    while at > 1 {
+        at -= 1;
+        out[at] = b'0' + (left % 10) as u8;
+        left = left / 10;
     }
-    let k = put_decimal(out, n / 10);
-    out[k] = b'0' + (n % 10) as u8;
-    k + 1
+    out[0] = b'0' + left as u8;
+    k
 }
 
 // Whether v has a minus: none stands before 0.

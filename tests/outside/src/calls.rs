@@ -1,14 +1,7 @@
 //! The calls of the archive, as include/certificate.h declares them.
 
 use reference::text::Answer;
-
-/// The C struct `Answer`.
-#[repr(C)]
-struct Returned {
-    refusal: u64,
-    line: u64,
-    length: u64,
-}
+use reference::with_sheet_numbers;
 
 extern "C" {
     fn certificate_write(
@@ -16,54 +9,35 @@ extern "C" {
         sheet_len: usize,
         buffer: *mut u8,
         buffer_len: usize,
-    ) -> Returned;
+    ) -> Answer;
 
-    fn certificate_check(certificate: *const u8, certificate_len: usize) -> Returned;
-
-    fn certificate_from_numbers(
-        form: u64,
-        h: u64,
-        b1: u64,
-        b2: u64,
-        c: u64,
-        r: u64,
-        tnom: u64,
-        t: u64,
-        fyb: u64,
-        gm0: u64,
-        rounds: u64,
-        allow: u64,
-        buffer: *mut u8,
-        buffer_len: usize,
-    ) -> Returned;
-}
-
-impl Returned {
-    fn answer(self) -> Answer {
-        Answer {
-            number: self.refusal,
-            line: self.line,
-            length: self.length,
-        }
-    }
+    fn certificate_check(certificate: *const u8, certificate_len: usize) -> Answer;
 }
 
 pub fn write(sheet: &[u8], buffer: &mut [u8]) -> Answer {
     let (room, buffer) = (buffer.len(), buffer.as_mut_ptr());
-    unsafe { certificate_write(sheet.as_ptr(), sheet.len(), buffer, room) }.answer()
+    unsafe { certificate_write(sheet.as_ptr(), sheet.len(), buffer, room) }
 }
 
 pub fn check(certificate: &[u8]) -> Answer {
-    unsafe { certificate_check(certificate.as_ptr(), certificate.len()) }.answer()
+    unsafe { certificate_check(certificate.as_ptr(), certificate.len()) }
 }
 
-pub fn from_numbers(numbers: [u64; 12], buffer: &mut [u8]) -> Answer {
-    let [form, h, b1, b2, c, r, tnom, t, fyb, gm0, rounds, allow] = numbers;
-    let (room, buffer) = (buffer.len(), buffer.as_mut_ptr());
-    unsafe {
-        certificate_from_numbers(
-            form, h, b1, b2, c, r, tnom, t, fyb, gm0, rounds, allow, buffer, room,
-        )
-    }
-    .answer()
+macro_rules! declare_from_numbers {
+    ($($number:ident),*) => {
+        extern "C" {
+            fn certificate_from_numbers(
+                $($number: u64,)*
+                buffer: *mut u8,
+                buffer_len: usize,
+            ) -> Answer;
+        }
+
+        pub fn from_numbers([$($number),*]: [u64; 12], buffer: &mut [u8]) -> Answer {
+            let (room, buffer) = (buffer.len(), buffer.as_mut_ptr());
+            unsafe { certificate_from_numbers($($number,)* buffer, room) }
+        }
+    };
 }
+
+with_sheet_numbers!(declare_from_numbers);

@@ -15,11 +15,11 @@ pub enum Call<'a> {
 
 /// At least so many bytes stand on either side of a buffer, which no call may
 /// touch.
-const FENCE: usize = 64;
+const GUARD: usize = 64;
 
 /// Where the buffer begins: at any place of a machine word, by its length.
 fn front(room: usize) -> usize {
-    FENCE + room % 16
+    GUARD + room % 16
 }
 
 /// How many sheets or texts were tried, and how many calls agreed, by the
@@ -31,41 +31,34 @@ pub struct Agreed {
 }
 
 impl Agreed {
-    pub fn add(&mut self, more: &Agreed) {
-        self.cases += more.cases;
-        for (sum, n) in self.calls.iter_mut().zip(more.calls) {
-            *sum += n;
-        }
-    }
-
     /// Calls both with a buffer of so many bytes; what is written, or how they
     /// differ.
     pub fn call(&mut self, call: Call, room: usize) -> Result<Vec<u8>, String> {
-        let mut seen = fenced(room);
+        let mut seen = guarded(room);
         let mut expected = seen.clone();
-        let answer = of_archive(call, inner(&mut seen, room));
-        let right = of_reference(call, inner(&mut expected, room));
+        let answer = of_archive(call, buffer_in(&mut seen, room));
+        let right = of_reference(call, buffer_in(&mut expected, room));
         if answer != right || seen != expected {
             return Err(difference(call, room, (answer, &seen), (right, &expected)));
         }
-        self.calls[answer.number as usize] += 1;
-        let written = match (call, answer.number) {
+        self.calls[answer.refusal as usize] += 1;
+        let written = match (call, answer.refusal) {
             (Call::Check(_), _) | (_, 1..) => 0,
             _ => answer.length as usize,
         };
-        Ok(inner(&mut seen, room)[..written].to_vec())
+        Ok(buffer_in(&mut seen, room)[..written].to_vec())
     }
 }
 
 /// Memory with a buffer in its middle. The bytes vary, so that one moved to
 /// another place shows.
-fn fenced(room: usize) -> Vec<u8> {
-    (0..front(room) + room + FENCE)
+fn guarded(room: usize) -> Vec<u8> {
+    (0..front(room) + room + GUARD)
         .map(|i| (i * 31 % 251) as u8)
         .collect()
 }
 
-fn inner(memory: &mut [u8], room: usize) -> &mut [u8] {
+fn buffer_in(memory: &mut [u8], room: usize) -> &mut [u8] {
     &mut memory[front(room)..][..room]
 }
 
@@ -103,14 +96,14 @@ fn difference(call: Call, room: usize, seen: (Answer, &[u8]), expected: (Answer,
     };
     for (whose, (answer, memory)) in [("archive", seen), ("reference", expected)] {
         let Answer {
-            number,
+            refusal,
             line,
             length,
         } = answer;
         let bytes = memory[front(room)..][..room].escape_ascii();
         let _ = writeln!(
             report,
-            "{whose}: refusal {number}, line {line}, length {length}; the buffer:\n    {bytes}"
+            "{whose}: refusal {refusal}, line {line}, length {length}; the buffer:\n    {bytes}"
         );
     }
     if let Some(at) = (0..seen.1.len()).find(|&at| seen.1[at] != expected.1[at]) {

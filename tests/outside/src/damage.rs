@@ -1,6 +1,6 @@
 //! Texts and numbers with faults.
 
-use reference::generate::Chance;
+use reference::chance::Chance;
 use reference::sheet::RANGES;
 
 /// Bytes that a fault puts in: those with a meaning in a text and some others.
@@ -9,28 +9,20 @@ pub const FAULTS: [u8; 18] = [
     127, 255,
 ];
 
-fn place(chance: &mut Chance, length: usize) -> usize {
-    chance.between(0, length as u64) as usize
-}
-
-fn fault(chance: &mut Chance) -> u8 {
-    FAULTS[place(chance, FAULTS.len() - 1)]
-}
-
 fn lines(text: &[u8]) -> Vec<Vec<u8>> {
     text.split_inclusive(|&byte| byte == b'\n')
         .map(<[u8]>::to_vec)
         .collect()
 }
 
-/// One fault more.
+/// Puts one more fault in.
 fn damage(chance: &mut Chance, text: &mut Vec<u8>) {
-    let at = place(chance, text.len());
+    let at = chance.place(text.len() + 1);
     match chance.between(0, 12) {
-        0 => text.insert(at, fault(chance)),
+        0 => text.insert(at, chance.one_of(&FAULTS)),
         1 => text.truncate(at),
-        2 => text.extend((0..=chance.between(0, 200)).map(|_| fault(chance))),
-        3 | 4 if at < text.len() => text[at] = fault(chance),
+        2 => text.extend((0..=chance.between(0, 200)).map(|_| chance.one_of(&FAULTS))),
+        3 | 4 if at < text.len() => text[at] = chance.one_of(&FAULTS),
         5 if at < text.len() => text[at] ^= 1 << chance.between(0, 7),
         6 if at < text.len() => {
             text.remove(at);
@@ -45,10 +37,7 @@ fn exchanged_lines(chance: &mut Chance, mut lines: Vec<Vec<u8>>) -> Vec<Vec<u8>>
     if lines.is_empty() {
         return lines;
     }
-    let (i, j) = (
-        place(chance, lines.len() - 1),
-        place(chance, lines.len() - 1),
-    );
+    let (i, j) = (chance.place(lines.len()), chance.place(lines.len()));
     match chance.between(0, 2) {
         0 => {
             lines.remove(i);
@@ -64,7 +53,7 @@ fn another_value(chance: &mut Chance, mut lines: Vec<Vec<u8>>) -> Vec<Vec<u8>> {
     if lines.is_empty() {
         return lines;
     }
-    let i = place(chance, lines.len() - 1);
+    let i = chance.place(lines.len());
     let line = String::from_utf8_lossy(&lines[i]).into_owned();
     let (key, old) = line.trim_end().split_once('=').unwrap_or((&line, ""));
     let old: u64 = old.parse().unwrap_or(0);
@@ -84,7 +73,7 @@ fn another_value(chance: &mut Chance, mut lines: Vec<Vec<u8>>) -> Vec<Vec<u8>> {
 
 /// A number of any size.
 fn number(chance: &mut Chance) -> u64 {
-    const MARKS: [u64; 8] = [
+    const EDGES: [u64; 8] = [
         0,
         9_999_999_999,
         10_000_000_000,
@@ -95,7 +84,7 @@ fn number(chance: &mut Chance) -> u64 {
         u64::MAX,
     ];
     match chance.between(0, 3) {
-        0 => chance.one_of(&MARKS),
+        0 => chance.one_of(&EDGES),
         1 => chance.between(0, 9),
         _ => chance.between(0, (1 << 48) - 1) >> chance.between(0, 47),
     }
@@ -116,7 +105,7 @@ pub fn damaged(chance: &mut Chance, text: &[u8]) -> Vec<u8> {
 /// their range or beside it, or replaced.
 pub fn moved(chance: &mut Chance, mut numbers: [u64; 12]) -> [u64; 12] {
     for _ in 0..chance.between(1, 3) {
-        let i = place(chance, 11);
+        let i = chance.place(numbers.len());
         let (least, greatest) = RANGES[i];
         numbers[i] = match chance.between(0, 5) {
             0 => numbers[i].saturating_add(1),

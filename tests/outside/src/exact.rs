@@ -6,9 +6,9 @@ use std::cmp::Ordering;
 /// The value factor × other ÷ divisor; the divisor is above zero.
 #[derive(Clone, Copy)]
 pub struct Fraction {
-    pub factor: i128,
-    pub other: i128,
-    pub divisor: i128,
+    factor: i128,
+    other: i128,
+    divisor: i128,
 }
 
 impl Fraction {

@@ -2,10 +2,13 @@
 
 use crate::compare::{Agreed, Call};
 use crate::damage::{damaged, moved, FAULTS};
-use reference::cases::{certificates, sheets, text_of, z_section};
+use reference::cases::{certificates, sheets, text_of, with_figure_moved, z_section};
+use reference::chance::Chance;
 use reference::edges::edges;
 use reference::finer::failures;
-use reference::generate::{any_section, sections, Chance, SHEET_A, SHEET_B};
+use reference::generate::sections;
+use reference::named::{SHEET_A, SHEET_B};
+use reference::random::any_section;
 use reference::sheet::{Figures, Sheet};
 use reference::text::{read_certificate, FIGURE_KEYS, LONGEST_CERTIFICATE as LONGEST};
 
@@ -18,16 +21,18 @@ fn chosen() -> Vec<Sheet> {
     chosen
 }
 
-/// A sheet as text and as numbers; where it is accepted, its certificate too.
-fn sheet(agreed: &mut Agreed, sheet: [u64; 12]) -> Result<Option<Vec<u8>>, String> {
+/// Tries a sheet as text and as numbers and, where it is accepted, its certificate,
+/// which is returned.
+fn try_sheet(agreed: &mut Agreed, numbers: [u64; 12]) -> Result<Option<Vec<u8>>, String> {
     agreed.cases += 1;
-    let text = text_of(Sheet::from_numbers(sheet));
+    let text = text_of(Sheet::from_numbers(numbers));
     let from_text = agreed.call(Call::Write(text.as_bytes()), LONGEST)?;
-    let certificate = agreed.call(Call::FromNumbers(sheet), LONGEST)?;
+    let certificate = agreed.call(Call::FromNumbers(numbers), LONGEST)?;
     // A form from 2 on, and a number of more than ten digits, has no text.
-    if sheet[0] <= 1 && sheet.iter().all(|&n| n <= 9_999_999_999) && from_text != certificate {
+    let has_text = numbers[0] <= 1 && numbers.iter().all(|&n| n <= 9_999_999_999);
+    if has_text && from_text != certificate {
         return Err(format!(
-            "text and numbers give two certificates: {sheet:?}\n"
+            "text and numbers give two certificates: {numbers:?}\n"
         ));
     }
     if certificate.is_empty() {
@@ -41,13 +46,13 @@ fn sheet(agreed: &mut Agreed, sheet: [u64; 12]) -> Result<Option<Vec<u8>>, Strin
 pub fn given(sheets: impl IntoIterator<Item = [u64; 12]>) -> Tried {
     let mut agreed = Agreed::default();
     for numbers in sheets {
-        sheet(&mut agreed, numbers)?;
+        try_sheet(&mut agreed, numbers)?;
     }
     Ok(agreed)
 }
 
-/// Sections at the places where the rules turn, sheets at the edges of the
-/// questions, and the texts of the programs' cases.
+/// The sections and the sheets at the edges of the questions that section_cases
+/// works, and the texts of certificate_cases.
 pub fn kept_cases() -> Tried {
     let kept = sections().into_iter().map(|section| section.numbers());
     let mut agreed = given(kept.chain(edges()))?;
@@ -77,11 +82,11 @@ pub fn extreme_numbers() -> Tried {
     given(tried)
 }
 
-/// The texts of accepted sheets, with their certificates.
-fn texts(sheets: Vec<Sheet>) -> Result<Vec<(String, Vec<u8>)>, String> {
+/// The texts of those sheets that are accepted, with their certificates.
+fn accepted_texts(sheets: Vec<Sheet>) -> Result<Vec<(String, Vec<u8>)>, String> {
     let mut found = Vec::new();
     for section in sheets {
-        if let Some(certificate) = sheet(&mut Agreed::default(), section.numbers())? {
+        if let Some(certificate) = try_sheet(&mut Agreed::default(), section.numbers())? {
             found.push((text_of(section), certificate));
         }
     }
@@ -116,7 +121,7 @@ pub fn every_room(step: usize) -> Tried {
 /// past the end shows.
 pub fn every_cut() -> Tried {
     let mut agreed = Agreed::default();
-    for (sheet, certificate) in texts(chosen())? {
+    for (sheet, certificate) in accepted_texts(chosen())? {
         for n in 0..=sheet.len() {
             agreed.cases += 1;
             agreed.call(Call::Write(&sheet.as_bytes()[..n]), LONGEST)?;
@@ -145,7 +150,7 @@ fn faults_at(text: &[u8], at: usize) -> Vec<Vec<u8>> {
 /// A byte changed, put in and left out at every place, and bytes behind.
 pub fn every_place() -> Tried {
     let mut agreed = Agreed::default();
-    for (sheet, certificate) in texts(chosen())?.into_iter().take(4) {
+    for (sheet, certificate) in accepted_texts(chosen())?.into_iter().take(4) {
         let faults = |text: &[u8]| -> Vec<Vec<u8>> {
             let mut all: Vec<_> = (0..text.len()).flat_map(|at| faults_at(text, at)).collect();
             for byte in FAULTS {
@@ -169,32 +174,20 @@ pub fn every_place() -> Tried {
 pub fn figures_moved(step: usize) -> Tried {
     let mut agreed = Agreed::default();
     let sections = sections().into_iter().step_by(step).collect();
-    for (_, certificate) in texts(sections)? {
+    for (_, certificate) in accepted_texts(sections)? {
         let certificate = String::from_utf8(certificate).expect("a text");
-        for (key, moved) in FIGURE_KEYS
-            .iter()
-            .flat_map(|key| [-2, -1, 1, 2].map(|m| (key, m)))
-        {
-            agreed.cases += 1;
-            let moved = with_figure_moved(&certificate, key, moved);
-            agreed.call(Call::Check(moved.as_bytes()), LONGEST)?;
+        for key in FIGURE_KEYS {
+            for by in [-2, -1, 1, 2] {
+                agreed.cases += 1;
+                let moved = with_figure_moved(&certificate, key, by);
+                agreed.call(Call::Check(moved.as_bytes()), LONGEST)?;
+            }
         }
     }
     Ok(agreed)
 }
 
-fn with_figure_moved(certificate: &str, key: &str, moved: i64) -> String {
-    let line = |line: &str| match line.split_once('=') {
-        Some((its, value)) if its == key => {
-            let value: i64 = value.parse().expect("a figure");
-            format!("{key}={}\n", value + moved)
-        }
-        _ => format!("{line}\n"),
-    };
-    certificate.lines().map(line).collect()
-}
-
-/// Random sections over the whole ranges, corners over-weighted.
+/// Random sections over the whole ranges, many with values at the ends.
 pub fn random_sections(seed: u64, count: u64) -> Tried {
     let mut chance = Chance::seeded(seed);
     given((0..count).map(|_| any_section(&mut chance).numbers()))
@@ -213,10 +206,10 @@ pub fn random_numbers(seed: u64, count: u64) -> Tried {
 pub fn damaged_sheets(seed: u64, count: u64) -> Tried {
     let mut agreed = Agreed::default();
     let mut chance = Chance::seeded(seed);
-    let whole = texts(sections())?;
+    let whole = accepted_texts(sections())?;
     for _ in 0..count {
-        let (sheet, _) = &whole[chance.between(0, whole.len() as u64 - 1) as usize];
-        let room = chance.between(0, LONGEST as u64) as usize;
+        let (sheet, _) = &whole[chance.place(whole.len())];
+        let room = chance.place(LONGEST + 1);
         agreed.cases += 1;
         agreed.call(Call::Write(&damaged(&mut chance, sheet.as_bytes())), room)?;
     }
@@ -227,9 +220,9 @@ pub fn damaged_sheets(seed: u64, count: u64) -> Tried {
 pub fn damaged_certificates(seed: u64, count: u64) -> Tried {
     let mut agreed = Agreed::default();
     let mut chance = Chance::seeded(seed);
-    let whole = texts(sections())?;
+    let whole = accepted_texts(sections())?;
     for _ in 0..count {
-        let (_, certificate) = &whole[chance.between(0, whole.len() as u64 - 1) as usize];
+        let (_, certificate) = &whole[chance.place(whole.len())];
         agreed.cases += 1;
         agreed.call(Call::Check(&damaged(&mut chance, certificate)), LONGEST)?;
     }
@@ -244,22 +237,14 @@ pub fn finer_workings(seed: u64, count: u64, sheets: &[Sheet]) -> Tried {
     let mut chance = Chance::seeded(seed);
     let random = (0..count).map(|_| any_section(&mut chance));
     for section in sheets.iter().copied().chain(random) {
-        let Some(certificate) = sheet(&mut agreed, section.numbers())? else {
+        let Some(certificate) = try_sheet(&mut agreed, section.numbers())? else {
             agreed.cases -= 1;
             continue;
         };
         let (numbers, figures) = read_certificate(&certificate).expect("a certificate");
-        let [area, axial, chi1, chi2, shiftlo, shifthi] = figures;
-        let figures = Figures {
-            area,
-            axial,
-            chi1,
-            chi2,
-            shiftlo,
-            shifthi,
-        };
+        let (shown, figures) = (Sheet::from_numbers(numbers), Figures::from_numbers(figures));
         for m in [2, 3, 10, 1000] {
-            let failed = failures(&Sheet::from_numbers(numbers), &figures, m);
+            let failed = failures(&shown, &figures, m);
             if !failed.is_empty() {
                 return Err(format!("m = {m}: {failed:?} fail of {numbers:?}\n"));
             }

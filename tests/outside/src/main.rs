@@ -11,16 +11,14 @@ mod compare;
 mod damage;
 mod exact;
 mod groups;
+mod near;
 mod operands;
 mod operations;
 mod pair_calls;
-mod turns;
 
-use compare::Agreed;
 use groups::Tried;
 use operations::OPERATIONS;
-use reference::generate::Chance;
-use reference::thresholds::{kept, KEPT};
+use reference::chance::Chance;
 use std::env;
 use std::process::ExitCode;
 use std::time::Instant;
@@ -98,46 +96,46 @@ fn pair_operations(seed: u64, count: u64) -> Result<u64, String> {
 /// How many calls were tried.
 fn certificates(asked: &Asked, count: u64) -> Result<u64, String> {
     let seed = asked.seed;
-    let mut near = kept();
-    if asked.long {
-        near.extend(turns::found_near(seed, 2 * KEPT));
-    }
-    turns::tell_near(&near, KEPT)?;
-    let limits = turns::at_limits(seed, if asked.long { 100 } else { 12 });
+    let near = near::thresholds(seed, asked.long)?;
+    let limits = near::at_limits(seed, if asked.long { 100 } else { 12 });
     let step = if asked.long { 1 } else { 60 };
-
+    let near_numbers = || near.iter().map(|sheet| sheet.numbers());
     println!(
         "\n{:24} {:>7} {:>8}   calls with refusal 0, 1, .. 13",
         "", "cases", "s"
     );
-    let mut all = Agreed::default();
-    let mut tell = |name: &str, group: &dyn Fn() -> Tried| -> Result<(), String> {
-        let started = Instant::now();
-        let agreed = group()?;
-        let counts = agreed.calls.map(|n| n.to_string()).join(" ");
-        let seconds = started.elapsed().as_secs_f64();
-        println!("{name:24} {:7} {seconds:8.1}   {counts}", agreed.cases);
-        all.add(&agreed);
-        Ok(())
-    };
-    tell("near thresholds", &|| {
-        groups::given(near.iter().map(|s| s.numbers()))
-    })?;
-    tell("at limits", &|| groups::given(limits.iter().copied()))?;
-    tell("kept cases", &groups::kept_cases)?;
-    tell("extreme numbers", &groups::extreme_numbers)?;
-    tell("every room", &|| groups::every_room(step))?;
-    tell("cut at every byte", &groups::every_cut)?;
-    tell("a fault at every place", &groups::every_place)?;
-    tell("figures moved", &|| groups::figures_moved(step))?;
-    tell("random sections", &|| groups::random_sections(seed, count))?;
-    tell("random numbers", &|| groups::random_numbers(seed, count))?;
-    tell("damaged sheets", &|| groups::damaged_sheets(seed, count))?;
-    tell("damaged certificates", &|| {
-        groups::damaged_certificates(seed, count)
-    })?;
-    tell("m = 2, 3, 10, 1000", &|| {
-        groups::finer_workings(seed, count / 4, &near)
-    })?;
-    Ok(all.calls.iter().sum())
+    let groups: [(&str, &dyn Fn() -> Tried); 13] = [
+        ("near thresholds", &|| groups::given(near_numbers())),
+        ("at limits", &|| groups::given(limits.iter().copied())),
+        ("kept cases", &groups::kept_cases),
+        ("extreme numbers", &groups::extreme_numbers),
+        ("every room", &|| groups::every_room(step)),
+        ("cut at every byte", &groups::every_cut),
+        ("a fault at every place", &groups::every_place),
+        ("figures moved", &|| groups::figures_moved(step)),
+        ("random sections", &|| groups::random_sections(seed, count)),
+        ("random numbers", &|| groups::random_numbers(seed, count)),
+        ("damaged sheets", &|| groups::damaged_sheets(seed, count)),
+        ("damaged certificates", &|| {
+            groups::damaged_certificates(seed, count)
+        }),
+        ("m = 2, 3, 10, 1000", &|| {
+            groups::finer_workings(seed, count / 4, &near)
+        }),
+    ];
+    let mut calls = 0;
+    for (name, group) in groups {
+        calls += timed(name, group)?;
+    }
+    Ok(calls)
+}
+
+/// Tries a group and prints its line of the table; how many calls there were.
+fn timed(name: &str, group: &dyn Fn() -> Tried) -> Result<u64, String> {
+    let started = Instant::now();
+    let agreed = group()?;
+    let counts = agreed.calls.map(|n| n.to_string()).join(" ");
+    let seconds = started.elapsed().as_secs_f64();
+    println!("{name:24} {:7} {seconds:8.1}   {counts}", agreed.cases);
+    Ok(agreed.calls.iter().sum())
 }

@@ -1,8 +1,8 @@
 //! Random operands of the pair operations: ends of their ranges, neighbours of
-//! powers of two, and results at the brim of 64 bits come up often.
+//! powers of two, and operands whose result just fits 64 bits come up often.
 
 use crate::pair_calls::{Ends, SignedEnd, SignedEnds};
-use reference::generate::Chance;
+use reference::chance::Chance;
 
 pub const MOST: u64 = u64::MAX;
 

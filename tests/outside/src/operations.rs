@@ -5,7 +5,7 @@
 use crate::exact::{rounded_outward, Fraction};
 use crate::operands::*;
 use crate::pair_calls::*;
-use reference::generate::Chance;
+use reference::chance::Chance;
 
 type Tried = Result<(), String>;
 

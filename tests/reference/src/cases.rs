@@ -3,9 +3,10 @@
 //! What each is meant to show is stated by hand; tests/cases.rs holds the
 //! reference to it.
 
-use crate::generate::{needed_allowance, SHEET_A, SHEET_B};
+use crate::generate::needed_allowance;
+use crate::named::{LIP_LONG_ON_MID_LINES, SHEET_A, SHEET_B};
 use crate::sheet::{ask_numbers, Sheet};
-use crate::text::{certificate_text, sheet_text, SHEET_KEYS};
+use crate::text::{certificate_text, sheet_text, FIGURE_KEYS, SHEET_KEYS};
 
 /// What a text is meant to show.
 #[derive(Clone, Copy, Debug, PartialEq, Eq)]
@@ -24,17 +25,17 @@ fn refused(number: u64, line: u64) -> Meant {
 /// number of the question that it is about, but for the marked sheets and some
 /// that pass.
 pub struct Case {
-    pub name: &'static str,
+    pub name: String,
     pub text: Vec<u8>,
     pub meant: Meant,
 }
 
-fn case(name: &'static str, text: impl Into<Vec<u8>>, meant: Meant) -> Case {
-    let text = text.into();
+fn case(name: impl Into<String>, text: impl Into<Vec<u8>>, meant: Meant) -> Case {
+    let (name, text) = (name.into(), text.into());
     Case { name, text, meant }
 }
 
-fn sheet_case(name: &'static str, sheet: Sheet, meant: Meant) -> Case {
+fn sheet_case(name: &str, sheet: Sheet, meant: Meant) -> Case {
     case(name, text_of(sheet), meant)
 }
 
@@ -48,7 +49,7 @@ pub fn certificate_of(sheet: Sheet) -> String {
 }
 
 /// The sheet with some values changed, as "b1=12000 c=2800".
-fn with(sheet: Sheet, changes: &str) -> Sheet {
+pub fn with(sheet: Sheet, changes: &str) -> Sheet {
     let mut numbers = sheet.numbers();
     for change in changes.split(' ') {
         let (key, value) = change.split_once('=').expect("key=value");
@@ -69,11 +70,6 @@ pub fn z_section() -> Sheet {
 /// Sheet B with its flanges exchanged: the axis moves toward flange 1.
 fn b_turned() -> Sheet {
     with(SHEET_B, "b1=6600 b2=7400")
-}
-
-/// The thirteenth marked case.
-fn ratio_on_mid_lines() -> Sheet {
-    with(SHEET_A, "b1=2000 b2=2000 c=1200 r=0 tnom=100 t=95")
 }
 
 /// Values at the lower ends of their ranges, but for allow: with 0 the eleventh
@@ -110,7 +106,7 @@ fn accepted_and_marked() -> Vec<Case> {
             with(SHEET_A, "c=2600"),
             refused(7, 3),
         ),
-        sheet_case("marked_13_mid_lines", ratio_on_mid_lines(), refused(9, 3)),
+        sheet_case("marked_13_mid_lines", LIP_LONG_ON_MID_LINES, refused(9, 3)),
         sheet_case("z_section", z_section(), Passes),
         sheet_case("shift_below_zero", b_turned(), Passes),
         sheet_case("eight_rounds", with(SHEET_B, "rounds=8"), Passes),
@@ -182,7 +178,7 @@ fn slender() -> Vec<Case> {
 /// Questions 7 to 11.
 fn proportions() -> Vec<Case> {
     let short = with(large_radius(), "b1=5000 b2=5000 c=1000 r=400");
-    let long = with(ratio_on_mid_lines(), "b1=2500 b2=2500 c=1500");
+    let long = with(LIP_LONG_ON_MID_LINES, "b1=2500 b2=2500 c=1500");
     let radius = with(SHEET_A, "b1=3200 b2=3200 c=1000 allow=100");
     let mid_lines = with(SHEET_A, "b1=2200 b2=2200 c=1300 r=0 allow=100");
     let web = with(SHEET_A, "h=5000 b1=6000 b2=6000 c=2500 allow=100");
@@ -258,89 +254,70 @@ fn without_line(text: &str, line: usize) -> String {
         .collect()
 }
 
-/// Sheet texts that are not spelt right.
+/// A text without each of some lines, the first of which has that number.
+fn without_lines(text: &str, keys: &[&str], first: usize) -> Vec<Case> {
+    let lines = keys.iter().zip(first..);
+    lines
+        .map(|(key, line)| {
+            let name = format!("01_without_{key}");
+            case(name, without_line(text, line), refused(1, line as u64))
+        })
+        .collect()
+}
+
+/// A text that is misspelt in one place: the case's name, what stood there, what
+/// stands there now, and the line.
+type Misspelling = (&'static str, &'static str, &'static str, u64);
+
+fn misspelt(text: &str, misspellings: &[Misspelling]) -> Vec<Case> {
+    misspellings
+        .iter()
+        .map(|&(name, old, new, line)| case(name, text.replacen(old, new, 1), refused(1, line)))
+        .collect()
+}
+
+/// Of sheet A.
+const MISSPELT_SHEET: [Misspelling; 17] = [
+    ("01_form_x", "form=C", "form=X", 1),
+    ("01_form_small_letter", "form=C", "form=c", 1),
+    ("01_form_two_letters", "form=C", "form=CZ", 1),
+    ("01_form_a_number", "form=C", "form=0", 1),
+    ("01_key_capital", "h=", "H=", 2),
+    ("01_blank_behind_key", "h=", "h= ", 2),
+    ("01_blank_behind_value", "h=7200", "h=7200 ", 2),
+    ("01_eleven_digits", "h=7200", "h=10000000000", 2),
+    (
+        "01_lines_exchanged",
+        "b1=4200\nb2=4200",
+        "b2=4200\nb1=4200",
+        3,
+    ),
+    ("01_line_twice", "c=1600\n", "c=1600\nc=1600\n", 6),
+    ("01_leading_zero", "r=300", "r=0300", 6),
+    ("01_two_zeros", "r=300", "r=00", 6),
+    ("01_no_digit", "r=300", "r=", 6),
+    ("01_minus", "r=300", "r=-300", 6),
+    ("01_plus", "r=300", "r=+300", 6),
+    ("01_point", "fyb=235", "fyb=235.0", 9),
+    ("01_zero_byte", "gm0=1000", "gm0=1000\0", 10),
+];
+
 fn misspelt_sheets() -> Vec<Case> {
     let a = &text_of(SHEET_A);
-    let put = |old: &str, new: &str| a.replacen(old, new, 1);
+    let returns = a.replace('\n', "\r\n");
+    let certificate = certificate_of(SHEET_A);
     let mut cases = vec![
         case("01_empty", "", refused(1, 1)),
-        case(
-            "01_carriage_returns",
-            a.replace('\n', "\r\n"),
-            refused(1, 1),
-        ),
+        case("01_carriage_returns", returns, refused(1, 1)),
         case("01_byte_order_mark", format!("\u{feff}{a}"), refused(1, 1)),
-        case("01_form_x", put("form=C", "form=X"), refused(1, 1)),
-        case(
-            "01_form_small_letter",
-            put("form=C", "form=c"),
-            refused(1, 1),
-        ),
-        case(
-            "01_form_two_letters",
-            put("form=C", "form=CZ"),
-            refused(1, 1),
-        ),
-        case("01_form_a_number", put("form=C", "form=0"), refused(1, 1)),
-        case("01_key_capital", put("h=", "H="), refused(1, 2)),
-        case("01_blank_behind_key", put("h=", "h= "), refused(1, 2)),
-        case(
-            "01_blank_behind_value",
-            put("h=7200", "h=7200 "),
-            refused(1, 2),
-        ),
-        case(
-            "01_eleven_digits",
-            put("h=7200", "h=10000000000"),
-            refused(1, 2),
-        ),
-        case(
-            "01_lines_exchanged",
-            put("b1=4200\nb2=4200", "b2=4200\nb1=4200"),
-            refused(1, 3),
-        ),
-        case(
-            "01_line_twice",
-            put("c=1600\n", "c=1600\nc=1600\n"),
-            refused(1, 6),
-        ),
-        case("01_leading_zero", put("r=300", "r=0300"), refused(1, 6)),
-        case("01_two_zeros", put("r=300", "r=00"), refused(1, 6)),
-        case("01_no_digit", put("r=300", "r="), refused(1, 6)),
-        case("01_minus", put("r=300", "r=-300"), refused(1, 6)),
-        case("01_plus", put("r=300", "r=+300"), refused(1, 6)),
-        case("01_point", put("fyb=235", "fyb=235.0"), refused(1, 9)),
-        case(
-            "01_zero_byte",
-            put("gm0=1000", "gm0=1000\0"),
-            refused(1, 10),
-        ),
+    ];
+    cases.extend(misspelt(a, &MISSPELT_SHEET));
+    cases.extend([
         case("01_last_newline_missing", a.trim_end(), refused(1, 12)),
         case("01_newline_behind", format!("{a}\n"), refused(1, 13)),
-        case(
-            "01_certificate_as_sheet",
-            certificate_of(SHEET_A),
-            refused(1, 13),
-        ),
-    ];
-    const MISSING: [&str; 12] = [
-        "01_without_form",
-        "01_without_h",
-        "01_without_b1",
-        "01_without_b2",
-        "01_without_c",
-        "01_without_r",
-        "01_without_tnom",
-        "01_without_t",
-        "01_without_fyb",
-        "01_without_gm0",
-        "01_without_rounds",
-        "01_without_allow",
-    ];
-    for (i, name) in MISSING.into_iter().enumerate() {
-        let text = without_line(a, i + 1);
-        cases.push(case(name, text, refused(1, i as u64 + 1)));
-    }
+        case("01_certificate_as_sheet", certificate, refused(1, 13)),
+    ]);
+    cases.extend(without_lines(a, &SHEET_KEYS, 1));
     cases
 }
 
@@ -364,136 +341,86 @@ fn passing_certificates() -> Vec<Case> {
     ]
 }
 
-/// Certificate texts that are not spelt right.
+/// Of sheet A's certificate.
+const MISSPELT_CERTIFICATE: [Misspelling; 6] = [
+    (
+        "01_area_eleven_digits",
+        "area=36000",
+        "area=36000000000",
+        13,
+    ),
+    ("01_area_minus", "area=36000", "area=-36000", 13),
+    ("01_axial_leading_zero", "axial=84600", "axial=084600", 14),
+    ("01_shiftlo_minus_zero", "shiftlo=0", "shiftlo=-0", 17),
+    ("01_shifthi_minus_zero", "shifthi=0", "shifthi=-0", 18),
+    ("01_shifthi_two_minuses", "shifthi=0", "shifthi=--1", 18),
+];
+
 fn misspelt_certificates() -> Vec<Case> {
     let a = &certificate_of(SHEET_A);
-    let put = |old: &str, new: &str| a.replacen(old, new, 1);
-    vec![
+    let returns = a.replace('\n', "\r\n");
+    let mut cases = vec![
         case("01_empty", "", refused(1, 1)),
-        case(
-            "01_carriage_returns",
-            a.replace('\n', "\r\n"),
-            refused(1, 1),
-        ),
-        case("01_form_x", put("form=C", "form=X"), refused(1, 1)),
-        case("01_without_allow", without_line(a, 12), refused(1, 12)),
-        case("01_sheet_as_certificate", text_of(SHEET_A), refused(1, 13)),
-        case("01_without_area", without_line(a, 13), refused(1, 13)),
-        case("01_without_axial", without_line(a, 14), refused(1, 14)),
-        case("01_without_chi1", without_line(a, 15), refused(1, 15)),
-        case("01_without_chi2", without_line(a, 16), refused(1, 16)),
-        case("01_without_shiftlo", without_line(a, 17), refused(1, 17)),
-        case("01_without_shifthi", without_line(a, 18), refused(1, 18)),
-        case(
-            "01_area_eleven_digits",
-            put("area=36000", "area=36000000000"),
-            refused(1, 13),
-        ),
-        case(
-            "01_area_minus",
-            put("area=36000", "area=-36000"),
-            refused(1, 13),
-        ),
-        case(
-            "01_axial_leading_zero",
-            put("axial=84600", "axial=084600"),
-            refused(1, 14),
-        ),
-        case(
-            "01_shiftlo_minus_zero",
-            put("shiftlo=0", "shiftlo=-0"),
-            refused(1, 17),
-        ),
-        case(
-            "01_shifthi_minus_zero",
-            put("shifthi=0", "shifthi=-0"),
-            refused(1, 18),
-        ),
-        case(
-            "01_shifthi_two_minuses",
-            put("shifthi=0", "shifthi=--1"),
-            refused(1, 18),
-        ),
+        case("01_carriage_returns", returns, refused(1, 1)),
+    ];
+    cases.extend(misspelt(a, &[("01_form_x", "form=C", "form=X", 1)]));
+    cases.extend(without_lines(a, &["allow"], 12));
+    cases.push(case(
+        "01_sheet_as_certificate",
+        text_of(SHEET_A),
+        refused(1, 13),
+    ));
+    cases.extend(without_lines(a, &FIGURE_KEYS, 13));
+    cases.extend(misspelt(a, &MISSPELT_CERTIFICATE));
+    cases.extend([
         case("01_last_newline_missing", a.trim_end(), refused(1, 18)),
         case("01_newline_behind", format!("{a}\n"), refused(1, 19)),
-    ]
+    ]);
+    cases
 }
 
 /// Certificates that do not agree with the working, or whose sheet is refused.
 fn wrong_certificates() -> Vec<Case> {
     let a = &certificate_of(SHEET_A);
     let b = &certificate_of(SHEET_B);
-    let figures = ask_numbers(SHEET_B.numbers()).expect("sheet B").figures;
+    let strong = b.replace("fyb=350", "fyb=701");
+    let long_lip = a.replace("c=1600", "c=2600");
     let no_allowance = b.replace("allow=10\n", "allow=0\n");
-    let area = |n: i128| format!("area={n}\n");
-    let wrong_area = no_allowance.replace(&area(figures.area), &area(figures.area + 1));
+    let area_too = with_figure_moved(&no_allowance, "area", 1);
+    let deeper = b.replace("h=20000", "h=20100");
+    let large_area = a.replace("area=36000", "area=9999999999");
+    let minus = b
+        .replace("shiftlo=", "shiftlo=-")
+        .replace("shifthi=", "shifthi=-");
     let mut cases = vec![
-        case(
-            "02_fyb_above",
-            b.replace("fyb=350", "fyb=701"),
-            refused(2, 9),
-        ),
-        case("07_long_lip", a.replace("c=1600", "c=2600"), refused(7, 3)),
+        case("02_fyb_above", strong, refused(2, 9)),
+        case("07_long_lip", long_lip, refused(7, 3)),
         case("11_no_allowance", no_allowance, refused(11, 12)),
-        case("11_before_13", wrong_area, refused(11, 12)),
-        case(
-            "13_another_depth",
-            b.replace("h=20000", "h=20100"),
-            refused(13, 13),
-        ),
-        case(
-            "13_area_ten_digits",
-            a.replace("area=36000", "area=9999999999"),
-            refused(13, 13),
-        ),
-        case(
-            "13_shifts_with_minus",
-            minus_before_shifts(b),
-            refused(13, 17),
-        ),
+        case("11_before_13", area_too, refused(11, 12)),
+        case("13_another_depth", deeper, refused(13, 13)),
+        case("13_area_ten_digits", large_area, refused(13, 13)),
+        case("13_shifts_with_minus", minus, refused(13, 17)),
     ];
-    const CHANGED: [(&str, &str); 6] = [
-        ("13_area_less", "13_area_more"),
-        ("13_axial_less", "13_axial_more"),
-        ("13_chi1_less", "13_chi1_more"),
-        ("13_chi2_less", "13_chi2_more"),
-        ("13_shiftlo_less", "13_shiftlo_more"),
-        ("13_shifthi_less", "13_shifthi_more"),
-    ];
-    for (i, (less, more)) in CHANGED.into_iter().enumerate() {
-        let meant = refused(13, i as u64 + 13);
-        cases.push(case(
-            less,
-            with_figure(b, i, figures.numbers()[i] - 1),
-            meant,
-        ));
-        cases.push(case(
-            more,
-            with_figure(b, i, figures.numbers()[i] + 1),
-            meant,
-        ));
+    for (key, line) in FIGURE_KEYS.iter().zip(13..) {
+        for (name, by) in [("less", -1), ("more", 1)] {
+            let name = format!("13_{key}_{name}");
+            let moved = with_figure_moved(b, key, by);
+            cases.push(case(name, moved, refused(13, line)));
+        }
     }
     cases
 }
 
-fn minus_before_shifts(certificate: &str) -> String {
-    certificate
-        .replace("shiftlo=", "shiftlo=-")
-        .replace("shifthi=", "shifthi=-")
-}
-
-/// A certificate with one of its six figures changed.
-fn with_figure(certificate: &str, place: usize, figure: i128) -> String {
-    let mut text = String::new();
-    for (i, line) in certificate.split_inclusive('\n').enumerate() {
-        let (key, _) = line.split_once('=').expect("key=value");
-        if i == place + 12 {
-            text += &format!("{key}={figure}\n");
-        } else {
-            text += line;
+/// A certificate with one of its figures changed by so much.
+pub fn with_figure_moved(certificate: &str, key: &str, by: i64) -> String {
+    let moved = |line: &str| match line.split_once('=') {
+        Some((its, figure)) if its == key => {
+            let figure: i64 = figure.parse().expect("a figure");
+            format!("{key}={}\n", figure + by)
         }
-    }
-    text
+        _ => format!("{line}\n"),
+    };
+    certificate.lines().map(moved).collect()
 }
 
 /// Texts that are to be checked.

@@ -2,7 +2,8 @@
 //! the last value on either side that passes, the first that does not, the ends
 //! of its range and the numbers just past them.
 
-use crate::generate::{sections, LONGEST_LIP, SHEET_A, SHEET_B};
+use crate::generate::sections;
+use crate::named::{LONGEST_LIP, SHEET_A, SHEET_B};
 use crate::sheet::{ask_before_working, Sheet, RANGES};
 
 fn passes(numbers: [u64; 12]) -> bool {

@@ -7,37 +7,27 @@ use crate::working::Working;
 /// The twelve inequalities, named; all must be true.
 pub fn inequalities(sheet: &Sheet, figures: &Figures, m: i128) -> Vec<(String, bool)> {
     let scale = Scale::multiple(m);
+    let s = scale.units();
     let working = Working::of(sheet, scale);
+    let allow = sheet.allow as i128;
+    // 10 × allow × fyb ÷ gm0 newtons, times the divisor of the axial resistance.
+    let allowed = 10 * allow * sheet.fyb as i128 * s;
     let mut claims = Vec::new();
+    let mut claim = |figure: &str, end: &str, side: &str, holds: bool| {
+        claims.push((format!("{figure} {end} from {side}"), holds));
+    };
     for (end, area) in ends(working.area) {
-        claims.push((
-            format!("area {end} from below"),
-            area_at_least(area, scale, figures),
-        ));
-        claims.push((
-            format!("area {end} from above"),
-            area_at_most(area, scale, figures, sheet),
-        ));
-        claims.push((
-            format!("axial {end} from below"),
-            axial_at_least(area, scale, figures, sheet),
-        ));
-        claims.push((
-            format!("axial {end} from above"),
-            axial_below(area, scale, figures, sheet),
-        ));
+        let area_most = (figures.area + allow) * s;
+        claim("area", end, "below", area * 100 >= figures.area * s);
+        claim("area", end, "above", area * 100 <= area_most);
+        let (axial, divisor) = axial_resistance(sheet, area, scale);
+        let axial_below = (figures.axial + 1) * divisor + allowed;
+        claim("axial", end, "below", axial >= figures.axial * divisor);
+        claim("axial", end, "above", axial < axial_below);
     }
     for (end, shift) in ends(working.shift) {
-        let hundredths = shift * 100;
-        let s = scale.units();
-        claims.push((
-            format!("shift {end} from below"),
-            hundredths >= figures.shiftlo * s,
-        ));
-        claims.push((
-            format!("shift {end} from above"),
-            hundredths <= figures.shifthi * s,
-        ));
+        claim("shift", end, "below", shift * 100 >= figures.shiftlo * s);
+        claim("shift", end, "above", shift * 100 <= figures.shifthi * s);
     }
     claims
 }
@@ -53,27 +43,4 @@ pub fn failures(sheet: &Sheet, figures: &Figures, m: i128) -> Vec<String> {
 
 fn ends(pair: Pair) -> [(&'static str, i128); 2] {
     [("lower", pair.lo), ("upper", pair.hi)]
-}
-
-/// At least area, in 0.01 mm².
-fn area_at_least(area: i128, scale: Scale, figures: &Figures) -> bool {
-    area * 100 >= figures.area * scale.units()
-}
-
-/// At most area + allow.
-fn area_at_most(area: i128, scale: Scale, figures: &Figures, sheet: &Sheet) -> bool {
-    area * 100 <= (figures.area + sheet.allow as i128) * scale.units()
-}
-
-/// At least axial, in newtons.
-fn axial_at_least(area: i128, scale: Scale, figures: &Figures, sheet: &Sheet) -> bool {
-    let (dividend, divisor) = axial_resistance(sheet, area, scale);
-    dividend >= figures.axial * divisor
-}
-
-/// Less than axial + 1 + 10 × allow × fyb ÷ gm0, exact.
-fn axial_below(area: i128, scale: Scale, figures: &Figures, sheet: &Sheet) -> bool {
-    let (dividend, divisor) = axial_resistance(sheet, area, scale);
-    let allowed = 10 * (sheet.allow * sheet.fyb) as i128 * scale.units();
-    dividend < (figures.axial + 1) * divisor + allowed
 }

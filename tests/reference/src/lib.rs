@@ -2,14 +2,23 @@
 //!
 //! Slow and plain on purpose: wide integers, every intermediate pair kept.
 
-pub mod cases;
-pub mod edges;
-pub mod finer;
-pub mod generate;
-pub mod limits;
+// The working.
 pub mod pair;
 pub mod rules;
 pub mod sheet;
 pub mod text;
-pub mod thresholds;
 pub mod working;
+
+/// Demand 3.
+pub mod finer;
+
+// Sheets and texts to try, with fixed or given seeds.
+pub mod cases;
+pub mod chance;
+pub mod edges;
+pub mod generate;
+pub mod kinds;
+pub mod limits;
+pub mod named;
+pub mod random;
+pub mod thresholds;

@@ -1,7 +1,9 @@
-//! Sheets within two units of every limit of questions 2 to 10. A limit is a
-//! linear form of the twelve numbers, and is met where that is at most 0.
+//! Sheets within two units of every limit of questions 2 to 10. A limit is a sum of
+//! the numbers with factors, and is met where that is at most 0.
 
-use crate::generate::{random_section, Chance};
+use crate::chance::Chance;
+use crate::random::random_section;
+use crate::sheet::place::{B1, B2, C, H, R, T, TNOM};
 use crate::sheet::{ask_before_working, RANGES};
 use crate::text::SHEET_KEYS;
 
@@ -12,18 +14,9 @@ pub struct Limit {
     constant: i128,
 }
 
-/// Places of the numbers in a sheet.
-const H: usize = 1;
-const B1: usize = 2;
-const B2: usize = 3;
-const C: usize = 4;
-const R: usize = 5;
-const TNOM: usize = 6;
-const T: usize = 7;
-
 /// Questions 3 to 10. The ninth is doubled, since cp has half hundredths:
 /// 10c − 5tnom ≤ 6b − 6tnom.
-const FORMS: [(u64, &[(i128, usize)]); 15] = [
+const QUESTIONS_3_TO_10: [(u64, &[(i128, usize)]); 15] = [
     (3, &[(1, T), (-1, TNOM)]),
     (4, &[(1, B1), (-60, T)]),
     (4, &[(1, B2), (-60, T)]),
@@ -53,7 +46,7 @@ pub fn limits() -> Vec<Limit> {
         limits.push(range_end(-1, place, least));
         limits.push(range_end(1, place, greatest));
     }
-    limits.extend(FORMS.map(|(question, factors)| Limit {
+    limits.extend(QUESTIONS_3_TO_10.map(|(question, factors)| Limit {
         question,
         factors: factors.to_vec(),
         constant: 0,
@@ -62,7 +55,7 @@ pub fn limits() -> Vec<Limit> {
 }
 
 impl Limit {
-    /// The form, which is to be at most 0.
+    /// The question, and the sum that is to be at most 0.
     pub fn name(&self) -> String {
         let term = |&(factor, place): &(i128, usize)| match factor {
             1 => format!(" + {}", SHEET_KEYS[place]),
@@ -75,23 +68,17 @@ impl Limit {
             1.. => format!(" - {}", self.constant),
             _ => format!(" + {}", -self.constant),
         };
-        let form = self.factors.iter().map(term).collect::<String>() + &constant;
-        format!(
-            "question {}: {}",
-            self.question,
-            form.trim_start_matches(" +").trim_start()
-        )
+        let sum = self.factors.iter().map(term).collect::<String>() + &constant;
+        let sum = sum.trim_start_matches(" +").trim_start();
+        format!("question {}: {sum}", self.question)
     }
 
     fn value(&self, numbers: [u64; 12]) -> i128 {
-        let products = self
-            .factors
-            .iter()
-            .map(|&(f, place)| f * numbers[place] as i128);
-        products.sum::<i128>() - self.constant
+        let product = |&(factor, place): &(i128, usize)| factor * numbers[place] as i128;
+        self.factors.iter().map(product).sum::<i128>() - self.constant
     }
 
-    /// The sheet with one number changed so that the form has the value.
+    /// The sheet with one number changed so that the sum has the value.
     fn with_value(&self, mut numbers: [u64; 12], changed: usize, value: i128) -> Option<[u64; 12]> {
         let (factor, place) = self.factors[changed];
         let more = value - self.value(numbers);
@@ -116,8 +103,9 @@ impl Limit {
     }
 }
 
-/// So many sheets with the form's value at each of -2 to 2; fewer where they are
-/// not found.
+const TRIES: usize = 100_000;
+
+/// So many sheets with the sum at each of -2 to 2; fewer where they are not found.
 pub fn at_limit(limit: &Limit, chance: &mut Chance, wanted: usize) -> [Vec<[u64; 12]>; 5] {
     [-2, -1, 0, 1, 2].map(|value| {
         let mut found = Vec::new();
@@ -132,14 +120,12 @@ pub fn at_limit(limit: &Limit, chance: &mut Chance, wanted: usize) -> [Vec<[u64;
     })
 }
 
-const TRIES: usize = 100_000;
-
 fn try_at(limit: &Limit, chance: &mut Chance, value: i128) -> Option<[u64; 12]> {
     let mut sheet = random_section(chance)?;
     sheet.allow = 1000;
     if limit.question == 10 {
         sheet.form = 0;
     }
-    let changed = chance.between(0, limit.factors.len() as u64 - 1) as usize;
+    let changed = chance.place(limit.factors.len());
     limit.with_value(sheet.numbers(), changed, value)
 }

@@ -83,12 +83,14 @@ fn corners(x: Pair, y: Pair) -> [(i128, i128); 4] {
     [(x.lo, y.lo), (x.lo, y.hi), (x.hi, y.lo), (x.hi, y.hi)]
 }
 
-fn smallest(values: impl Iterator<Item = i128>) -> i128 {
-    values.min().expect("four corners")
-}
-
-fn largest(values: impl Iterator<Item = i128>) -> i128 {
-    values.max().expect("four corners")
+/// The quotient, a dividend and a divisor, for each way to take one end of each:
+/// the least rounded down and the greatest rounded up.
+fn outward(x: Pair, y: Pair, quotient: impl Fn(i128, i128) -> (i128, i128)) -> Pair {
+    let quotients = corners(x, y).map(|(x, y)| quotient(x, y));
+    let down = quotients.map(|(dividend, divisor)| divide_down(dividend, divisor));
+    let up = quotients.map(|(dividend, divisor)| divide_up(dividend, divisor));
+    let [least, greatest] = [down.into_iter().min(), up.into_iter().max()];
+    common_scale(x, y).pair(least.expect("four"), greatest.expect("four"))
 }
 
 impl Add for Pair {
@@ -108,13 +110,8 @@ impl Sub for Pair {
 impl Mul for Pair {
     type Output = Pair;
     fn mul(self, other: Pair) -> Pair {
-        let scale = common_scale(self, other);
-        let s = scale.units;
-        let ends = corners(self, other);
-        scale.pair(
-            smallest(ends.iter().map(|&(x, y)| divide_down(x * y, s))),
-            largest(ends.iter().map(|&(x, y)| divide_up(x * y, s))),
-        )
+        let s = self.scale.units;
+        outward(self, other, |x, y| (x * y, s))
     }
 }
 
@@ -122,13 +119,8 @@ impl Div for Pair {
     type Output = Pair;
     fn div(self, other: Pair) -> Pair {
         assert!(other.lo > 0, "divisor not above zero");
-        let scale = common_scale(self, other);
-        let s = scale.units;
-        let ends = corners(self, other);
-        scale.pair(
-            smallest(ends.iter().map(|&(x, y)| divide_down(x * s, y))),
-            largest(ends.iter().map(|&(x, y)| divide_up(x * s, y))),
-        )
+        let s = self.scale.units;
+        outward(self, other, |x, y| (x * s, y))
     }
 }
 
@@ -144,7 +136,7 @@ pub fn divide_up(dividend: i128, divisor: i128) -> i128 {
 }
 
 /// The largest r with r×r ≤ x, found bit by bit.
-pub fn root_down(x: i128) -> i128 {
+fn root_down(x: i128) -> i128 {
     assert!(x >= 0);
     let mut r: i128 = 0;
     for bit in (0..63).rev() {
@@ -158,7 +150,7 @@ pub fn root_down(x: i128) -> i128 {
 }
 
 /// The smallest r with r×r ≥ x.
-pub fn root_up(x: i128) -> i128 {
+fn root_up(x: i128) -> i128 {
     let r = root_down(x);
     if r * r == x {
         r
@@ -168,7 +160,7 @@ pub fn root_up(x: i128) -> i128 {
 }
 
 /// The largest r with r×r×r ≤ x, found bit by bit.
-pub fn cube_root_down(x: i128) -> i128 {
+fn cube_root_down(x: i128) -> i128 {
     assert!(x >= 0);
     let mut r: i128 = 0;
     for bit in (0..42).rev() {
@@ -182,7 +174,7 @@ pub fn cube_root_down(x: i128) -> i128 {
 }
 
 /// The smallest r with r×r×r ≥ x.
-pub fn cube_root_up(x: i128) -> i128 {
+fn cube_root_up(x: i128) -> i128 {
     let r = cube_root_down(x);
     if r * r * r == x {
         r

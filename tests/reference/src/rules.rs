@@ -54,21 +54,21 @@ impl WidthRule {
 /// k of a lip from q, end by end: each operation rounded down for the lower
 /// end and up for the upper.
 pub fn lip_coefficient(q: Pair) -> Pair {
-    let lower = coefficient_past(q.scale.pair(q.lo, q.lo)).lo;
-    let upper = coefficient_past(q.scale.pair(q.hi, q.hi)).hi;
+    let lower = coefficient_at(q.scale.pair(q.lo, q.lo)).lo;
+    let upper = coefficient_at(q.scale.pair(q.hi, q.hi)).hi;
     q.scale.pair(lower, upper)
 }
 
 /// 0.5 for q ≤ 0.35, else 0.5 + 0.83 × cube root of ((q − 0.35)×(q − 0.35)),
 /// for a q with equal ends.
-fn coefficient_past(q: Pair) -> Pair {
+fn coefficient_at(q: Pair) -> Pair {
     let s = q.scale;
-    let turn = s.exact(35, 100);
+    let threshold = s.exact(35, 100);
     let half = s.exact(1, 2);
-    if q.lo <= turn.lo {
+    if q.lo <= threshold.lo {
         return half;
     }
-    half + s.exact(83, 100) * ((q - turn) * (q - turn)).cube_root()
+    half + s.exact(83, 100) * ((q - threshold) * (q - threshold)).cube_root()
 }
 
 /// The thickness factor χ of the stiffener's slenderness ud.
@@ -84,7 +84,7 @@ pub fn thickness_factor(ud: Pair) -> Pair {
     ud.scale.pair(at_upper, at_lower)
 }
 
-/// The lower end is below 1.38 and the upper isn't.
+/// The lower end is below 1.38 and the upper is not.
 pub fn straddles_jump(ud: Pair) -> bool {
     let jump = thousandths(ud.scale, 1380);
     ud.lo < jump && ud.hi >= jump
@@ -115,64 +115,43 @@ mod tests {
         Scale::multiple(1).pair(lo, hi)
     }
 
+    fn chi(lo: i128, hi: i128) -> (i128, i128) {
+        thickness_factor(pair(lo, hi)).ends()
+    }
+
+    const ONE: (i128, i128) = (1_000_000, 1_000_000);
+
     #[test]
     fn linear_chi_never_passes_one() {
-        assert_eq!(
-            thickness_factor(pair(650_000, 650_001)).ends(),
-            (1_000_000, 1_000_000)
-        );
-        assert_eq!(
-            thickness_factor(pair(650_069, 650_069)).ends(),
-            (1_000_000, 1_000_000)
-        );
-        assert_eq!(
-            thickness_factor(pair(650_070, 650_070)).ends(),
-            (999_999, 1_000_000)
-        );
+        assert_eq!(chi(650_000, 650_001), ONE);
+        assert_eq!(chi(650_069, 650_069), ONE);
+        assert_eq!(chi(650_070, 650_070), (999_999, 1_000_000));
+    }
+
+    #[test]
+    fn chi_across_the_jump_keeps_the_outer_values() {
+        assert_eq!(chi(1_380_000, 1_380_000), (478_260, 478_261));
+        assert_eq!(chi(1_379_999, 1_379_999), (472_260, 472_261));
+        assert_eq!(chi(600_000, 2_000_000), (330_000, 1_000_000));
     }
 
     #[test]
     fn rho_is_one_to_the_threshold_and_just_past_it() {
-        for u in [673_000, 673_001, 673_002] {
-            assert_eq!(SUPPORTED.rho(pair(u, u)).ends(), (1_000_000, 1_000_000));
-        }
-        for u in [748_000, 748_001, 748_002] {
-            assert_eq!(OUTSTAND.rho(pair(u, u)).ends(), (1_000_000, 1_000_000));
+        for past in 0..=2 {
+            let (supported, outstand) = (673_000 + past, 748_000 + past);
+            assert_eq!(SUPPORTED.rho(pair(supported, supported)).ends(), ONE);
+            assert_eq!(OUTSTAND.rho(pair(outstand, outstand)).ends(), ONE);
         }
         assert!(SUPPORTED.rho(pair(680_000, 680_000)).hi < 1_000_000);
         assert!(OUTSTAND.rho(pair(760_000, 760_000)).hi < 1_000_000);
     }
 
     #[test]
-    fn coefficient_turns_at_035() {
-        assert_eq!(
-            lip_coefficient(pair(350_000, 350_000)).ends(),
-            (500_000, 500_000)
-        );
+    fn coefficient_rises_from_035() {
+        let k = |lo, hi| lip_coefficient(pair(lo, hi)).ends();
+        assert_eq!(k(350_000, 350_000), (500_000, 500_000));
         // (0.000001)² is below one unit: (0, 1), whose cube root is (0, 0.01).
-        assert_eq!(
-            lip_coefficient(pair(350_000, 350_001)).ends(),
-            (500_000, 508_300)
-        );
-        assert_eq!(
-            lip_coefficient(pair(600_000, 600_000)).ends(),
-            (829_385, 829_387)
-        );
-    }
-
-    #[test]
-    fn chi_across_the_jump_keeps_the_outer_values() {
-        assert_eq!(
-            thickness_factor(pair(1_380_000, 1_380_000)).ends(),
-            (478_260, 478_261)
-        );
-        assert_eq!(
-            thickness_factor(pair(1_379_999, 1_379_999)).ends(),
-            (472_260, 472_261)
-        );
-        assert_eq!(
-            thickness_factor(pair(600_000, 2_000_000)).ends(),
-            (330_000, 1_000_000)
-        );
+        assert_eq!(k(350_000, 350_001), (500_000, 508_300));
+        assert_eq!(k(600_000, 600_000), (829_385, 829_387));
     }
 }

@@ -3,7 +3,7 @@
 //! "Printed").
 
 use crate::pair::{divide_down, divide_up, Pair, Scale};
-use crate::working::Working;
+use crate::working::{worked, Working};
 
 /// A sheet: lengths in 0.01 mm, fyb in N/mm², gm0 in thousandths, allow in
 /// 0.01 mm²; form 0 for C, 1 for Z.
@@ -21,6 +21,30 @@ pub struct Sheet {
     pub gm0: u64,
     pub rounds: u64,
     pub allow: u64,
+}
+
+/// Places of the numbers in a sheet.
+pub mod place {
+    pub const H: usize = 1;
+    pub const B1: usize = 2;
+    pub const B2: usize = 3;
+    pub const C: usize = 4;
+    pub const R: usize = 5;
+    pub const TNOM: usize = 6;
+    pub const T: usize = 7;
+    pub const FYB: usize = 8;
+    pub const GM0: usize = 9;
+    pub const ROUNDS: usize = 10;
+    pub const ALLOW: usize = 11;
+}
+
+/// Hands the names of the twelve numbers, in the sheet's order, to a macro: for
+/// the calls of C, which take the numbers one by one.
+#[macro_export]
+macro_rules! with_sheet_numbers {
+    ($to:ident) => {
+        $to! { form, h, b1, b2, c, r, tnom, t, fyb, gm0, rounds, allow }
+    };
 }
 
 /// Ranges of lines 1 to 12, both ends included.
@@ -78,24 +102,25 @@ impl Sheet {
     pub fn is_z(&self) -> bool {
         self.form == 1
     }
-
-    fn flanges(&self) -> [u64; 2] {
-        [self.b1, self.b2]
-    }
 }
 
-/// A "no": the question's number and a line.
+/// The question that is not met, by its number, and the line concerned.
 #[derive(Clone, Copy, Debug, PartialEq, Eq)]
 pub struct Refusal {
     pub number: u64,
     pub line: u64,
 }
 
-fn no(number: u64, line: u64) -> Result<(), Refusal> {
-    Err(Refusal { number, line })
+/// A question about a line.
+pub(crate) fn ask(met: bool, number: u64, line: u64) -> Result<(), Refusal> {
+    if met {
+        Ok(())
+    } else {
+        Err(Refusal { number, line })
+    }
 }
 
-/// Questions 2 to 10 on plain numbers; the first "no" decides.
+/// Questions 2 to 10 on plain numbers; the first that is not met decides.
 pub fn ask_before_working(numbers: [u64; 12]) -> Result<Sheet, Refusal> {
     ask_ranges(&numbers)?;
     let sheet = Sheet::from_numbers(numbers);
@@ -112,31 +137,21 @@ pub fn ask_before_working(numbers: [u64; 12]) -> Result<Sheet, Refusal> {
 
 /// Question 2: is every value in range?
 fn ask_ranges(numbers: &[u64; 12]) -> Result<(), Refusal> {
-    for (i, (least, greatest)) in RANGES.iter().enumerate() {
-        if numbers[i] < *least || numbers[i] > *greatest {
-            return no(2, i as u64 + 1);
-        }
+    for (i, (least, greatest)) in RANGES.into_iter().enumerate() {
+        ask((least..=greatest).contains(&numbers[i]), 2, i as u64 + 1)?;
     }
     Ok(())
 }
 
 /// Question 3: t ≤ tnom?
 fn ask_thickness(sheet: &Sheet) -> Result<(), Refusal> {
-    if sheet.t <= sheet.tnom {
-        Ok(())
-    } else {
-        no(3, 8)
-    }
+    ask(sheet.t <= sheet.tnom, 3, 8)
 }
 
 /// The first flange of which the claim is not true gives line 3 or 4.
 fn ask_flanges(sheet: &Sheet, number: u64, claim: impl Fn(u64) -> bool) -> Result<(), Refusal> {
-    for (i, b) in sheet.flanges().into_iter().enumerate() {
-        if !claim(b) {
-            return no(number, 3 + i as u64);
-        }
-    }
-    Ok(())
+    ask(claim(sheet.b1), number, 3)?;
+    ask(claim(sheet.b2), number, 4)
 }
 
 /// Question 4: b ≤ 60t?
@@ -146,20 +161,12 @@ fn ask_flange_slenderness(sheet: &Sheet) -> Result<(), Refusal> {
 
 /// Question 5: c ≤ 50t?
 fn ask_lip_slenderness(sheet: &Sheet) -> Result<(), Refusal> {
-    if sheet.c <= 50 * sheet.t {
-        Ok(())
-    } else {
-        no(5, 5)
-    }
+    ask(sheet.c <= 50 * sheet.t, 5, 5)
 }
 
 /// Question 6: h ≤ 500t?
 fn ask_web_slenderness(sheet: &Sheet) -> Result<(), Refusal> {
-    if sheet.h <= 500 * sheet.t {
-        Ok(())
-    } else {
-        no(6, 2)
-    }
+    ask(sheet.h <= 500 * sheet.t, 6, 2)
 }
 
 /// Question 7: b ≤ 5c and 5c ≤ 3b?
@@ -169,31 +176,20 @@ fn ask_lip_proportion(sheet: &Sheet) -> Result<(), Refusal> {
 
 /// Question 8: r ≤ 5t and 10r ≤ bp1 and 10r ≤ bp2?
 fn ask_radius(sheet: &Sheet) -> Result<(), Refusal> {
-    let small = sheet
-        .flanges()
-        .iter()
-        .all(|b| 10 * sheet.r <= b - sheet.tnom);
-    if sheet.r <= 5 * sheet.t && small {
-        Ok(())
-    } else {
-        no(8, 6)
-    }
+    let small_beside = |b: u64| 10 * sheet.r <= b - sheet.tnom;
+    let small = sheet.r <= 5 * sheet.t && small_beside(sheet.b1) && small_beside(sheet.b2);
+    ask(small, 8, 6)
 }
 
 /// Question 9: 5cp ≤ 3bp? Doubled, since cp has half hundredths.
 fn ask_midline_proportion(sheet: &Sheet) -> Result<(), Refusal> {
-    ask_flanges(sheet, 9, |b| {
-        5 * (2 * sheet.c - sheet.tnom) <= 6 * (b - sheet.tnom)
-    })
+    let five_lips = 5 * (2 * sheet.c - sheet.tnom);
+    ask_flanges(sheet, 9, |b| five_lips <= 6 * (b - sheet.tnom))
 }
 
 /// Question 10: form Z, or 2c ≤ h?
 fn ask_room_for_lips(sheet: &Sheet) -> Result<(), Refusal> {
-    if sheet.is_z() || 2 * sheet.c <= sheet.h {
-        Ok(())
-    } else {
-        no(10, 5)
-    }
+    ask(sheet.is_z() || 2 * sheet.c <= sheet.h, 10, 5)
 }
 
 /// The six printed figures.
@@ -210,7 +206,7 @@ pub struct Figures {
 impl Figures {
     pub fn of(sheet: &Sheet, working: &Working) -> Figures {
         let s = working.scale.units();
-        let [chi1, chi2] = working.chi();
+        let [chi1, chi2] = working.parts.chi;
         let thousandths = |chi: Pair| divide_down(chi.lo * 1000, s);
         let (dividend, divisor) = axial_resistance(sheet, working.area.lo, working.scale);
         Figures {
@@ -220,6 +216,18 @@ impl Figures {
             chi2: thousandths(chi2),
             shiftlo: divide_down(working.shift.lo * 100, s),
             shifthi: divide_up(working.shift.hi * 100, s),
+        }
+    }
+
+    pub fn from_numbers(numbers: [i128; 6]) -> Figures {
+        let [area, axial, chi1, chi2, shiftlo, shifthi] = numbers;
+        Figures {
+            area,
+            axial,
+            chi1,
+            chi2,
+            shiftlo,
+            shifthi,
         }
     }
 
@@ -245,11 +253,7 @@ pub fn axial_resistance(sheet: &Sheet, area_end: i128, scale: Scale) -> (i128, i
 /// Question 11: is the area's upper end at most area + allow?
 pub fn ask_allowance(sheet: &Sheet, working: &Working, figures: &Figures) -> Result<(), Refusal> {
     let bound = (figures.area + sheet.allow as i128) * working.scale.units();
-    if working.area.hi * 100 <= bound {
-        Ok(())
-    } else {
-        no(11, 12)
-    }
+    ask(working.area.hi * 100 <= bound, 11, 12)
 }
 
 /// A sheet that meets questions 2 to 11, with its working and figures.
@@ -263,7 +267,7 @@ pub struct Accepted {
 /// Questions 2 to 11 in order, worked at our scale.
 pub fn ask_numbers(numbers: [u64; 12]) -> Result<Accepted, Refusal> {
     let sheet = ask_before_working(numbers)?;
-    let working = Working::of(&sheet, Scale::multiple(1));
+    let working = worked(&sheet);
     let figures = Figures::of(&sheet, &working);
     ask_allowance(&sheet, &working, &figures)?;
     Ok(Accepted {

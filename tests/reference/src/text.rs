@@ -1,7 +1,7 @@
 //! Sheets and certificates as text: questions 1, 12 and 13 (document 01,
 //! "Sheet and certificate", "The questions, in this order").
 
-use crate::sheet::{ask_numbers, Accepted, Refusal};
+use crate::sheet::{ask, ask_numbers, Accepted, Refusal};
 
 /// Keys of a sheet, in order.
 pub const SHEET_KEYS: [&str; 12] = [
@@ -11,22 +11,25 @@ pub const SHEET_KEYS: [&str; 12] = [
 /// Keys of a certificate's further lines, in order.
 pub const FIGURE_KEYS: [&str; 6] = ["area", "axial", "chi1", "chi2", "shiftlo", "shifthi"];
 
-/// No text of a certificate is longer: each number has at most ten digits, and
-/// a shift a minus.
+/// No certificate is longer: each number has at most ten digits, and a shift a
+/// minus.
 pub const LONGEST_CERTIFICATE: usize = 273;
 
-/// What a call returns: 0 or the refusal's number, a line and a length.
+/// What a call returns, as include/certificate.h has it: 0 or the number of the
+/// refusal, a line and a length.
+#[repr(C)]
 #[derive(Clone, Copy, Debug, PartialEq, Eq)]
 pub struct Answer {
-    pub number: u64,
+    pub refusal: u64,
     pub line: u64,
     pub length: u64,
 }
 
 impl Answer {
-    fn done(length: usize) -> Answer {
+    /// A certificate of that length is written or passes.
+    fn in_order(length: usize) -> Answer {
         Answer {
-            number: 0,
+            refusal: 0,
             line: 0,
             length: length as u64,
         }
@@ -34,7 +37,7 @@ impl Answer {
 
     fn refused(refusal: Refusal) -> Answer {
         Answer {
-            number: refusal.number,
+            refusal: refusal.number,
             line: refusal.line,
             length: 0,
         }
@@ -127,12 +130,8 @@ fn figure_lines(reader: &mut Reader) -> Result<[i128; 6], Refusal> {
     Ok(numbers)
 }
 
-fn nothing_behind(reader: &Reader, line: usize) -> Result<(), Refusal> {
-    if reader.rest.is_empty() {
-        Ok(())
-    } else {
-        Err(bad_line(line))
-    }
+fn nothing_behind(reader: &Reader, line: u64) -> Result<(), Refusal> {
+    ask(reader.rest.is_empty(), 1, line)
 }
 
 /// Question 1 on a sheet.
@@ -170,21 +169,21 @@ pub fn certificate_text(accepted: &Accepted) -> String {
     text
 }
 
-/// Question 12, then the writing.
+/// Question 12; the buffer is written where it is met.
 fn write(accepted: &Accepted, buffer: &mut [u8]) -> Answer {
     let text = certificate_text(accepted);
     if text.len() > buffer.len() {
         return Answer {
-            number: 12,
+            refusal: 12,
             line: 0,
             length: text.len() as u64,
         };
     }
     buffer[..text.len()].copy_from_slice(text.as_bytes());
-    Answer::done(text.len())
+    Answer::in_order(text.len())
 }
 
-/// A sheet as text into a certificate.
+/// The certificate of a sheet's text, into the buffer.
 pub fn write_from_text(sheet: &[u8], buffer: &mut [u8]) -> Answer {
     match read_sheet(sheet) {
         Ok(numbers) => write_from_numbers(numbers, buffer),
@@ -192,7 +191,8 @@ pub fn write_from_text(sheet: &[u8], buffer: &mut [u8]) -> Answer {
     }
 }
 
-/// Twelve plain numbers into a certificate; begins at the second question.
+/// The certificate of twelve numbers, into the buffer; the first question asked is
+/// the second.
 pub fn write_from_numbers(numbers: [u64; 12], buffer: &mut [u8]) -> Answer {
     match ask_numbers(numbers) {
         Ok(accepted) => write(&accepted, buffer),
@@ -202,13 +202,11 @@ pub fn write_from_numbers(numbers: [u64; 12], buffer: &mut [u8]) -> Answer {
 
 /// Question 13: do lines 13 to 18 agree with the working?
 fn ask_agreement(accepted: &Accepted, figures: [i128; 6]) -> Result<(), Refusal> {
-    match (0..6).find(|&i| figures[i] != accepted.figures.numbers()[i]) {
-        None => Ok(()),
-        Some(i) => Err(Refusal {
-            number: 13,
-            line: i as u64 + 13,
-        }),
+    let worked = accepted.figures.numbers();
+    for (i, figure) in figures.into_iter().enumerate() {
+        ask(figure == worked[i], 13, i as u64 + 13)?;
     }
+    Ok(())
 }
 
 fn ask_certificate(certificate: &[u8]) -> Result<(), Refusal> {
@@ -217,10 +215,9 @@ fn ask_certificate(certificate: &[u8]) -> Result<(), Refusal> {
     ask_agreement(&accepted, figures)
 }
 
-/// Checks a certificate.
 pub fn check(certificate: &[u8]) -> Answer {
     match ask_certificate(certificate) {
-        Ok(()) => Answer::done(certificate.len()),
+        Ok(()) => Answer::in_order(certificate.len()),
         Err(refusal) => Answer::refused(refusal),
     }
 }

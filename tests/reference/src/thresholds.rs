@@ -1,127 +1,124 @@
-//! Sheets of which an end of a worked pair lies within two units of a place where
-//! the rules turn (document 01: 0.673, 0.748, 0.35, 0.65, 1.38, and the allowance
-//! of question 11), found by search.
+//! Sheets of which an end of a worked pair lies within two units of a threshold of
+//! the rules (document 01: 0.673, 0.748, 0.35, 0.65, 1.38, and the allowance of
+//! question 11), found by search.
 
-use crate::generate::{crossing, meets_questions, random_section, worked, Chance, Field};
+use crate::chance::Chance;
+use crate::generate::crossing;
 use crate::pair::Pair;
+use crate::random::{meets_questions, random_section, Field};
 use crate::sheet::{Figures, Sheet};
-use crate::working::{Stiffener, Working};
+use crate::working::{worked, Round, Stiffener, Working};
 
 /// The farthest from a threshold that counts, in units.
 const NEAR: i128 = 2;
 
 /// Something for the lower and for the upper end, at each distance from -2 to 2.
-pub type Cells<T> = [[T; 5]; 2];
+pub type AtDistances<T> = [[T; 5]; 2];
 
-/// A place where a rule turns.
+/// A value at which a rule changes.
 pub struct Threshold {
     pub name: &'static str,
+    /// In units.
+    value: i128,
     /// The ends and distances that occur.
-    pub occur: Cells<bool>,
-    /// How far the ends of each pair that is held against it lie from it.
-    distances: fn(&Sheet, &Working) -> Vec<[i128; 2]>,
-    candidates: fn(&Threshold, &mut Chance) -> Option<Vec<Sheet>>,
+    pub occur: AtDistances<bool>,
+    compared: Compared,
 }
 
-const ALL: Cells<bool> = [[true; 5]; 2];
+/// What is compared with a threshold.
+enum Compared {
+    /// u of the web.
+    Web,
+    /// A pair of both stiffeners in the first working, and the number of the sheet
+    /// that is moved to find it near the threshold, by the flange.
+    First(fn(&Stiffener) -> Pair, fn(usize) -> Field),
+    /// A pair of both stiffeners in every refining round.
+    Refined(fn(&Stiffener) -> Pair),
+    /// q of both lips.
+    Ratio,
+    /// How far the area's upper end lies past area + allow.
+    Area,
+}
+
+use Compared::{Area, First, Ratio, Refined, Web};
+
+const ALL: AtDistances<bool> = [[true; 5]; 2];
 
 /// q is a whole number over 20 bp beside 0.35, so at least 2.5 units from it, and
 /// its ends are those of 0.35 or lie 2 and 3 units from it.
-const OF_RATIO: Cells<bool> = [
+const OF_RATIO: AtDistances<bool> = [
     [false, false, true, false, true],
     [true, false, true, false, false],
 ];
 
 /// The root rounded up of no whole number of units, rooted again, is 0.650002.
-const OF_FACTOR: Cells<bool> = [[true; 5], [true, true, true, true, false]];
+const OF_FACTOR: AtDistances<bool> = [[true; 5], [true, true, true, true, false]];
 
 /// Question 11 asks about the upper end.
-const UPPER: Cells<bool> = [[false; 5], [true; 5]];
+const UPPER: AtDistances<bool> = [[false; 5], [true; 5]];
 
+#[rustfmt::skip] // a row to a line
 pub const THRESHOLDS: [Threshold; 11] = [
-    Threshold {
-        name: "web u at 0.673",
-        occur: ALL,
-        distances: |_, w| from(673_000, [w.web.u]),
-        candidates: |t, chance| moved(t, chance, false, |_| Field::H),
-    },
-    Threshold {
-        name: "flange u at 0.673",
-        occur: ALL,
-        distances: |_, w| from(673_000, w.flanges.map(|flange| flange.u)),
-        candidates: |t, chance| moved(t, chance, false, Field::of_flange),
-    },
-    Threshold {
-        name: "flange u at 0.673, refining",
-        occur: ALL,
-        distances: |_, w| from(673_000, refined(w, |s| s.flange.u)),
-        candidates: |t, chance| moved(t, chance, true, |_| Field::H),
-    },
-    Threshold {
-        name: "lip u at 0.748",
-        occur: ALL,
-        distances: |_, w| from(748_000, w.lips.map(|lip| lip.u)),
-        candidates: |t, chance| moved(t, chance, false, |_| Field::C),
-    },
-    Threshold {
-        name: "lip u at 0.748, refining",
-        occur: ALL,
-        distances: |_, w| from(748_000, refined(w, |s| s.lip.u)),
-        candidates: |t, chance| moved(t, chance, true, |_| Field::H),
-    },
-    Threshold {
-        name: "q at 0.35",
-        occur: OF_RATIO,
-        distances: |_, w| from(350_000, w.lip_ratios.map(|lip| lip.q)),
-        candidates: |_, chance| ratio_near(chance),
-    },
-    Threshold {
-        name: "ud at 0.65",
-        occur: OF_FACTOR,
-        distances: |_, w| from(650_000, w.rounds[0].stiffeners.map(|s| s.ud)),
-        candidates: |t, chance| moved(t, chance, false, |_| Field::H),
-    },
-    Threshold {
-        name: "ud at 0.65, refining",
-        occur: OF_FACTOR,
-        distances: |_, w| from(650_000, refined(w, |s| s.ud)),
-        candidates: |t, chance| moved(t, chance, true, |_| Field::H),
-    },
-    Threshold {
-        name: "ud at 1.38",
-        occur: ALL,
-        distances: |_, w| from(1_380_000, w.rounds[0].stiffeners.map(|s| s.ud)),
-        candidates: |t, chance| moved(t, chance, false, |_| Field::H),
-    },
-    Threshold {
-        name: "ud at 1.38, refining",
-        occur: ALL,
-        distances: |_, w| from(1_380_000, refined(w, |s| s.ud)),
-        candidates: |t, chance| moved(t, chance, true, |_| Field::H),
-    },
-    Threshold {
-        name: "area at area + allow (question 11)",
-        occur: UPPER,
-        distances: |sheet, w| vec![[i128::MAX, past_allowance(sheet, w)]],
-        candidates: |_, chance| allowance_near(chance),
-    },
+    at("web u at 0.673",                        673_000, ALL,       Web),
+    at("flange u at 0.673",                     673_000, ALL,       First(|s| s.flange.u, Field::of_flange)),
+    at("flange u at 0.673, refining",           673_000, ALL,       Refined(|s| s.flange.u)),
+    at("lip u at 0.748",                        748_000, ALL,       First(|s| s.lip.u, |_| Field::C)),
+    at("lip u at 0.748, refining",              748_000, ALL,       Refined(|s| s.lip.u)),
+    at("q at 0.35",                             350_000, OF_RATIO,  Ratio),
+    at("ud at 0.65",                            650_000, OF_FACTOR, First(|s| s.ud, |_| Field::H)),
+    at("ud at 0.65, refining",                  650_000, OF_FACTOR, Refined(|s| s.ud)),
+    at("ud at 1.38",                          1_380_000, ALL,       First(|s| s.ud, |_| Field::H)),
+    at("ud at 1.38, refining",                1_380_000, ALL,       Refined(|s| s.ud)),
+    at("area at area + allow (question 11)",          0, UPPER,     Area),
 ];
 
-fn from(mark: i128, pairs: impl IntoIterator<Item = Pair>) -> Vec<[i128; 2]> {
-    let distances = |pair: Pair| [pair.lo - mark, pair.hi - mark];
-    pairs.into_iter().map(distances).collect()
+const fn at(
+    name: &'static str,
+    value: i128,
+    occur: AtDistances<bool>,
+    compared: Compared,
+) -> Threshold {
+    Threshold {
+        name,
+        value,
+        occur,
+        compared,
+    }
 }
 
-/// A pair of both stiffeners, of every refining round.
-fn refined(working: &Working, pick: fn(&Stiffener) -> Pair) -> Vec<Pair> {
-    let rounds = working.rounds.iter().skip(1);
-    rounds
-        .flat_map(|round| round.stiffeners.each_ref().map(pick))
-        .collect()
+impl Threshold {
+    /// How far the ends of each pair that is compared lie from it.
+    fn distances(&self, sheet: &Sheet, working: &Working) -> Vec<[i128; 2]> {
+        let pairs = match self.compared {
+            Web => vec![working.web.u],
+            First(pick, _) => of_stiffeners(&working.rounds[..1], pick),
+            Refined(pick) => of_stiffeners(&working.rounds[1..], pick),
+            Ratio => working.lip_ratios.map(|lip| lip.q).to_vec(),
+            Area => return vec![[i128::MAX, past_allowance(sheet, working)]],
+        };
+        let distance = |pair: Pair| [pair.lo - self.value, pair.hi - self.value];
+        pairs.into_iter().map(distance).collect()
+    }
+
+    /// Sheets that may lie near it.
+    fn candidates(&self, chance: &mut Chance) -> Option<Vec<Sheet>> {
+        match self.compared {
+            Web => moved(self, chance, false, |_| Field::H),
+            First(_, field) => moved(self, chance, false, field),
+            Refined(_) => moved(self, chance, true, |_| Field::H),
+            Ratio => ratio_near(chance),
+            Area => allowance_near(chance),
+        }
+    }
+}
+
+fn of_stiffeners(rounds: &[Round], pick: fn(&Stiffener) -> Pair) -> Vec<Pair> {
+    let stiffeners = rounds.iter().flat_map(|round| &round.stiffeners);
+    stiffeners.map(pick).collect()
 }
 
 /// A random section with an allowance that most workings meet.
-fn base(chance: &mut Chance) -> Option<Sheet> {
+fn mostly_accepted(chance: &mut Chance) -> Option<Sheet> {
     let mut sheet = random_section(chance)?;
     if !chance.one_in(8) {
         sheet.allow = 1000;
@@ -137,14 +134,13 @@ fn moved(
     refining: bool,
     field: fn(usize) -> Field,
 ) -> Option<Vec<Sheet>> {
-    let mut sheet = base(chance)?;
+    let mut sheet = mostly_accepted(chance)?;
     let rounds = sheet.rounds;
     sheet.rounds = if refining { rounds.max(1) } else { 0 };
-    let pairs = 2 * sheet.rounds.max(1);
-    let pair = chance.between(0, pairs - 1) as usize;
-    let end = chance.between(0, 1) as usize;
+    let pair = chance.place(2 * sheet.rounds.max(1) as usize);
+    let end = chance.place(2);
     let value = |w: &Working| {
-        let distances = (threshold.distances)(&sheet, w);
+        let distances = threshold.distances(&sheet, w);
         distances[pair % distances.len()][end]
     };
     let mut found = crossing(&sheet, field(pair), value, 0)?.to_vec();
@@ -158,11 +154,11 @@ fn moved(
 /// 20 (cp − 0.35 bp) is -1, 0 or 1 hundredth. The next q beside 0.35 is
 /// 1 ÷ (20 bp) away, which is 2.5 units at the widest flange.
 fn ratio_near(chance: &mut Chance) -> Option<Vec<Sheet>> {
-    let mut sheet = base(chance)?;
+    let mut sheet = mostly_accepted(chance)?;
     let b = if chance.one_in(2) { sheet.b1 } else { sheet.b2 };
-    let twenty = 7 * b + 3 * sheet.tnom + chance.between(0, 2) - 1;
-    sheet.c = twenty / 20;
-    if 20 * sheet.c != twenty {
+    let twenty_lips = 7 * b + 3 * sheet.tnom + chance.between(0, 2) - 1;
+    sheet.c = twenty_lips / 20;
+    if 20 * sheet.c != twenty_lips {
         return None;
     }
     meets_questions(&sheet).then_some(vec![sheet])
@@ -191,32 +187,39 @@ fn allowance_near(chance: &mut Chance) -> Option<Vec<Sheet>> {
 #[derive(Clone, Copy, Default)]
 pub struct Near {
     pub sheets: u64,
-    pub cells: Cells<u64>,
+    pub at_distances: AtDistances<u64>,
 }
 
 impl Near {
+    pub fn of(threshold: &Threshold, workings: &[(Sheet, Working)]) -> Near {
+        let mut near = Near::default();
+        for (sheet, working) in workings {
+            near.count(threshold, sheet, working);
+        }
+        near
+    }
+
     /// Counts a sheet, once for each end and distance that its pairs show.
-    pub fn count(&mut self, threshold: &Threshold, sheet: &Sheet, working: &Working) {
-        let distances = (threshold.distances)(sheet, working);
-        let before = self.cells;
+    fn count(&mut self, threshold: &Threshold, sheet: &Sheet, working: &Working) {
+        let distances = threshold.distances(sheet, working);
+        let before = self.at_distances;
         for (end, distance) in (0..2).flat_map(|end| (-NEAR..=NEAR).map(move |d| (end, d))) {
             let shown = distances.iter().any(|pair| pair[end] == distance);
-            self.cells[end][(distance + NEAR) as usize] += u64::from(shown);
+            self.at_distances[end][(distance + NEAR) as usize] += u64::from(shown);
         }
-        self.sheets += u64::from(self.cells != before);
+        self.sheets += u64::from(self.at_distances != before);
     }
 
     /// The fewest sheets at an end and a distance that occur.
     pub fn fewest(&self, threshold: &Threshold) -> u64 {
-        let cells = self
-            .cells
-            .iter()
-            .flatten()
-            .zip(threshold.occur.iter().flatten());
-        let occurring = cells.filter(|(_, &occurs)| occurs).map(|(&n, _)| n);
+        let counts = self.at_distances.iter().flatten();
+        let occurring = counts.zip(threshold.occur.iter().flatten());
+        let occurring = occurring.filter(|(_, &occurs)| occurs).map(|(&n, _)| n);
         occurring.min().expect("some occur")
     }
 }
+
+const TRIES: u64 = 5_000_000;
 
 /// Sheets near a threshold, so many for each end and distance, unless that takes
 /// too many tries.
@@ -227,20 +230,19 @@ pub fn search(threshold: &Threshold, chance: &mut Chance, wanted: u64) -> Vec<Sh
         if near.fewest(threshold) >= wanted {
             break;
         }
-        for sheet in (threshold.candidates)(threshold, chance).unwrap_or_default() {
-            let mut with = near;
-            with.count(threshold, &sheet, &worked(&sheet));
-            let mut cells = near.cells.iter().flatten().zip(with.cells.iter().flatten());
-            if cells.any(|(&n, &more)| n < more && n < wanted) {
+        for sheet in threshold.candidates(chance).unwrap_or_default() {
+            let mut with_it = near;
+            with_it.count(threshold, &sheet, &worked(&sheet));
+            let counts = near.at_distances.iter().flatten();
+            let mut counts = counts.zip(with_it.at_distances.iter().flatten());
+            if counts.any(|(&n, &more)| n < more && n < wanted) {
                 found.push(sheet);
-                near = with;
+                near = with_it;
             }
         }
     }
     found
 }
-
-const TRIES: u64 = 5_000_000;
 
 /// So many sheets are kept for each end and distance.
 pub const KEPT: u64 = 12;

@@ -2,7 +2,9 @@
 //! "Widths and slenderness" to "Area, resistance, shift").
 
 use crate::pair::{Pair, Scale};
-use crate::rules::{lip_coefficient, slenderness_squared, thickness_factor, OUTSTAND, SUPPORTED};
+use crate::rules::{
+    lip_coefficient, slenderness_squared, thickness_factor, WidthRule, OUTSTAND, SUPPORTED,
+};
 use crate::sheet::Sheet;
 
 /// Lengths and steel of the sheet as exact pairs: mid-line lengths from the
@@ -39,22 +41,10 @@ pub struct Plane {
 }
 
 impl Plane {
-    fn supported(u2: Pair) -> Plane {
+    fn of(u2: Pair, rule: WidthRule) -> Plane {
         let u = u2.root();
-        Plane {
-            u2,
-            u,
-            rho: SUPPORTED.rho(u),
-        }
-    }
-
-    fn outstand(u2: Pair) -> Plane {
-        let u = u2.root();
-        Plane {
-            u2,
-            u,
-            rho: OUTSTAND.rho(u),
-        }
+        let rho = rule.rho(u);
+        Plane { u2, u, rho }
     }
 }
 
@@ -111,7 +101,7 @@ struct Widths {
 impl Widths {
     fn of(lengths: &Lengths, bp: Pair, flange: Plane, lip: Plane) -> Widths {
         let s = bp.scale;
-        let be2 = half_counting(flange.rho, bp);
+        let be2 = half_kept(flange.rho, bp);
         let c_eff = lip.rho * lengths.cp;
         let a = be2 + c_eff;
         let g = bp - be2 * be2 / (s.whole(2) * a);
@@ -163,7 +153,7 @@ impl Widths {
 }
 
 /// 0.5×ρ×width, left to right.
-fn half_counting(rho: Pair, width: Pair) -> Pair {
+fn half_kept(rho: Pair, width: Pair) -> Pair {
     rho.scale.exact(1, 2) * rho * width
 }
 
@@ -171,8 +161,8 @@ impl Round {
     /// One round from u² of both flanges and of both lips.
     fn of(lengths: &Lengths, flange_u2: [Pair; 2], lip_u2: [Pair; 2]) -> Round {
         let widths = [0, 1].map(|i| {
-            let flange = Plane::supported(flange_u2[i]);
-            let lip = Plane::outstand(lip_u2[i]);
+            let flange = Plane::of(flange_u2[i], SUPPORTED);
+            let lip = Plane::of(lip_u2[i], OUTSTAND);
             Widths::of(lengths, lengths.bp[i], flange, lip)
         });
         let kf = widths[1].a / widths[0].a;
@@ -196,8 +186,21 @@ pub struct Parts {
 }
 
 impl Parts {
+    /// The effective section: be1 is of the first round, the rest of the last.
+    fn effective(hp: Pair, web: Plane, rounds: &[Round]) -> Parts {
+        let last = rounds[rounds.len() - 1].stiffeners;
+        Parts {
+            hp,
+            he: half_kept(web.rho, hp),
+            be1: rounds[0].stiffeners.map(|s| s.be2),
+            be2: last.map(|s| s.be2),
+            c_eff: last.map(|s| s.c_eff),
+            chi: last.map(|s| s.chi),
+        }
+    }
+
     /// The gross section: all full, χ = 1.
-    pub fn full(lengths: &Lengths) -> Parts {
+    fn full(lengths: &Lengths) -> Parts {
         let s = lengths.hp.scale;
         let halves = lengths.bp.map(|bp| bp / s.whole(2));
         Parts {
@@ -211,13 +214,13 @@ impl Parts {
     }
 
     /// L = be1 + be1 + he + he + a1×χ1 + a2×χ2.
-    pub fn total_length(&self) -> Pair {
+    fn total_length(&self) -> Pair {
         let a = [0, 1].map(|i| self.be2[i] + self.c_eff[i]);
         self.be1[0] + self.be1[1] + self.he + self.he + a[0] * self.chi[0] + a[1] * self.chi[1]
     }
 
     /// The dividend of z.
-    pub fn moment(&self) -> Pair {
+    fn moment(&self) -> Pair {
         let two = self.hp.scale.whole(2);
         let (hp, he) = (self.hp, self.he);
         let [c1, c2] = self.c_eff;
@@ -228,6 +231,20 @@ impl Parts {
             + he * he / two
             + c1 * c1 * chi1 / two
     }
+
+    pub fn axis(&self) -> Axis {
+        let (length, moment) = (self.total_length(), self.moment());
+        let z = moment / length;
+        Axis { length, moment, z }
+    }
+}
+
+/// The length L of the parts, and z, how far their neutral axis lies from flange 1.
+#[derive(Clone, Copy, Debug)]
+pub struct Axis {
+    pub length: Pair,
+    pub moment: Pair,
+    pub z: Pair,
 }
 
 /// The whole working.
@@ -236,20 +253,18 @@ pub struct Working {
     pub scale: Scale,
     pub lengths: Lengths,
     pub web: Plane,
-    pub flanges: [Plane; 2],
     pub lip_ratios: [LipRatio; 2],
-    pub lips: [Plane; 2],
-    pub be1: [Pair; 2],
     pub rounds: Vec<Round>,
-    pub he: Pair,
-    pub total_length: Pair,
+    pub parts: Parts,
+    pub effective: Axis,
     pub area: Pair,
-    pub moment: Pair,
-    pub z: Pair,
-    pub gross_length: Pair,
-    pub gross_moment: Pair,
-    pub gross_z: Pair,
+    pub gross: Axis,
     pub shift: Pair,
+}
+
+/// The working at our scale.
+pub fn worked(sheet: &Sheet) -> Working {
+    Working::of(sheet, Scale::multiple(1))
 }
 
 impl Working {
@@ -258,88 +273,57 @@ impl Working {
         let Lengths { hp, bp, cp, t, fyb } = lengths;
         let four = scale.whole(4);
 
-        let web = Plane::supported(slenderness_squared(hp, t, fyb, four));
+        let web = Plane::of(slenderness_squared(hp, t, fyb, four), SUPPORTED);
         let flange_u2 = bp.map(|bp| slenderness_squared(bp, t, fyb, four));
         let lip_ratios = bp.map(|bp| LipRatio::of(cp, bp));
         let lip_u2 = lip_ratios.map(|lip| slenderness_squared(cp, t, fyb, lip.k));
-
         let rounds = all_rounds(&lengths, flange_u2, lip_u2, sheet.rounds);
-        let first = rounds[0];
-        let last = rounds[rounds.len() - 1];
-        let be1 = first.stiffeners.map(|s| s.be2);
 
-        let effective = Parts {
-            hp,
-            he: half_counting(web.rho, hp),
-            be1,
-            be2: last.stiffeners.map(|s| s.be2),
-            c_eff: last.stiffeners.map(|s| s.c_eff),
-            chi: last.stiffeners.map(|s| s.chi),
-        };
-        let gross = Parts::full(&lengths);
-        let total_length = effective.total_length();
-        let moment = effective.moment();
-        let z = moment / total_length;
-        let gross_length = gross.total_length();
-        let gross_moment = gross.moment();
-        let gross_z = gross_moment / gross_length;
-
+        let parts = Parts::effective(hp, web, &rounds);
+        let (effective, gross) = (parts.axis(), Parts::full(&lengths).axis());
         Working {
             scale,
             lengths,
             web,
-            flanges: first.stiffeners.map(|s| s.flange),
             lip_ratios,
-            lips: first.stiffeners.map(|s| s.lip),
-            be1,
             rounds,
-            he: effective.he,
-            total_length,
-            area: t * total_length,
-            moment,
-            z,
-            gross_length,
-            gross_moment,
-            gross_z,
-            shift: z - gross_z,
+            parts,
+            effective,
+            area: t * effective.length,
+            gross,
+            shift: effective.z - gross.z,
         }
-    }
-
-    /// χ of both flanges, of the last round.
-    pub fn chi(&self) -> [Pair; 2] {
-        self.rounds[self.rounds.len() - 1].stiffeners.map(|s| s.chi)
     }
 
     /// Every pair with its name, in the paper's order.
     pub fn named(&self) -> Vec<(String, Pair)> {
         let mut names = Names(Vec::new());
+        let first = self.rounds[0].stiffeners;
         names.add("hp", self.lengths.hp);
         names.add("bp1", self.lengths.bp[0]);
         names.add("bp2", self.lengths.bp[1]);
         names.add("cp", self.lengths.cp);
         names.plane("", "web", self.web);
-        for i in 0..2 {
-            names.plane("", &format!("flange{}", i + 1), self.flanges[i]);
+        names.plane("", "flange1", first[0].flange);
+        names.plane("", "flange2", first[1].flange);
+        for (i, ratio) in self.lip_ratios.iter().enumerate() {
+            names.add(format!("q.lip{}", i + 1), ratio.q);
+            names.add(format!("k.lip{}", i + 1), ratio.k);
+            names.plane("", &format!("lip{}", i + 1), first[i].lip);
         }
-        for i in 0..2 {
-            names.add(format!("q.lip{}", i + 1), self.lip_ratios[i].q);
-            names.add(format!("k.lip{}", i + 1), self.lip_ratios[i].k);
-            names.plane("", &format!("lip{}", i + 1), self.lips[i]);
-        }
-        for i in 0..2 {
-            names.add(format!("be1.flange{}", i + 1), self.be1[i]);
-        }
+        names.add("be1.flange1", self.parts.be1[0]);
+        names.add("be1.flange2", self.parts.be1[1]);
         for (number, round) in self.rounds.iter().enumerate() {
             names.round(number, round);
         }
-        names.add("he", self.he);
-        names.add("L", self.total_length);
+        names.add("he", self.parts.he);
+        names.add("L", self.effective.length);
         names.add("area", self.area);
-        names.add("moment", self.moment);
-        names.add("z", self.z);
-        names.add("gross.L", self.gross_length);
-        names.add("gross.moment", self.gross_moment);
-        names.add("gross.z", self.gross_z);
+        names.add("moment", self.effective.moment);
+        names.add("z", self.effective.z);
+        names.add("gross.L", self.gross.length);
+        names.add("gross.moment", self.gross.moment);
+        names.add("gross.z", self.gross.z);
         names.add("shift", self.shift);
         names.0
     }
@@ -363,6 +347,7 @@ fn all_rounds(
     rounds
 }
 
+/// Pairs with their names, as they are added.
 struct Names(Vec<(String, Pair)>);
 
 impl Names {
@@ -376,36 +361,28 @@ impl Names {
         self.add(format!("{before}rho.{name}"), plane.rho);
     }
 
-    fn both(&mut self, before: &str, name: &str, round: &Round, pick: fn(&Stiffener) -> Pair) {
-        for i in 0..2 {
-            self.add(
-                format!("{before}{name}{}", i + 1),
-                pick(&round.stiffeners[i]),
-            );
-        }
+    /// A pair of each stiffener.
+    fn both(&mut self, name: String, round: &Round, pick: fn(&Stiffener) -> Pair) {
+        self.add(format!("{name}1"), pick(&round.stiffeners[0]));
+        self.add(format!("{name}2"), pick(&round.stiffeners[1]));
     }
 
     fn round(&mut self, number: usize, round: &Round) {
         let before = format!("round{number}.");
-        for i in 0..2 {
-            self.plane(
-                &before,
-                &format!("flange{}", i + 1),
-                round.stiffeners[i].flange,
-            );
-        }
-        for i in 0..2 {
-            self.plane(&before, &format!("lip{}", i + 1), round.stiffeners[i].lip);
-        }
-        self.both(&before, "be2.flange", round, |s| s.be2);
-        self.both(&before, "c_eff.flange", round, |s| s.c_eff);
-        self.both(&before, "a", round, |s| s.a);
-        self.both(&before, "g", round, |s| s.g);
-        self.both(&before, "J", round, |s| s.j);
-        self.both(&before, "T", round, |s| s.big_t);
-        self.add(format!("{before}kf"), round.kf);
-        self.both(&before, "D", round, |s| s.d);
-        self.both(&before, "ud", round, |s| s.ud);
-        self.both(&before, "chi", round, |s| s.chi);
+        let [one, two] = round.stiffeners;
+        self.plane(&before, "flange1", one.flange);
+        self.plane(&before, "flange2", two.flange);
+        self.plane(&before, "lip1", one.lip);
+        self.plane(&before, "lip2", two.lip);
+        self.both(before.clone() + "be2.flange", round, |s| s.be2);
+        self.both(before.clone() + "c_eff.flange", round, |s| s.c_eff);
+        self.both(before.clone() + "a", round, |s| s.a);
+        self.both(before.clone() + "g", round, |s| s.g);
+        self.both(before.clone() + "J", round, |s| s.j);
+        self.both(before.clone() + "T", round, |s| s.big_t);
+        self.add(before.clone() + "kf", round.kf);
+        self.both(before.clone() + "D", round, |s| s.d);
+        self.both(before.clone() + "ud", round, |s| s.ud);
+        self.both(before + "chi", round, |s| s.chi);
     }
 }

@@ -1,34 +1,27 @@
 //! Demand 3 and the nesting of every pair, on the generated sections.
 
 use reference::finer::{failures, inequalities};
-use reference::generate::{passes_allowance, sections, worked, KINDS, SHEET_B};
+use reference::generate::{sections, worked_sections};
+use reference::kinds::{count, passes_allowance, KINDS};
+use reference::named::SHEET_B;
 use reference::pair::Scale;
 use reference::sheet::{ask_numbers, Figures, Sheet};
-use reference::text::{check, read_certificate, write_from_numbers};
-use reference::working::Working;
+use reference::text::{check, read_certificate, write_from_numbers, LONGEST_CERTIFICATE};
+use reference::working::{worked, Working};
 
 const MULTIPLES: [i128; 4] = [2, 3, 10, 1000];
 
 /// The sheet and figures that the written certificate shows.
 fn written(sheet: &Sheet) -> Option<(Sheet, Figures)> {
-    let mut buffer = [0; 400];
+    let mut buffer = [0; LONGEST_CERTIFICATE];
     let answer = write_from_numbers(sheet.numbers(), &mut buffer);
-    if answer.number != 0 {
+    if answer.refusal != 0 {
         return None;
     }
     let certificate = &buffer[..answer.length as usize];
     assert_eq!(check(certificate), answer);
-    let (numbers, [area, axial, chi1, chi2, shiftlo, shifthi]) =
-        read_certificate(certificate).expect("a certificate");
-    let figures = Figures {
-        area,
-        axial,
-        chi1,
-        chi2,
-        shiftlo,
-        shifthi,
-    };
-    Some((Sheet::from_numbers(numbers), figures))
+    let (numbers, figures) = read_certificate(certificate).expect("a certificate");
+    Some((Sheet::from_numbers(numbers), Figures::from_numbers(figures)))
 }
 
 #[test]
@@ -64,79 +57,35 @@ fn finer_pairs_lie_inside() {
     }
 }
 
-/// A figure one off in the bold direction is found.
+/// Each inequality finds a figure that is moved just past what it allows: one unit,
+/// or as much as `allow` leaves.
 #[test]
-fn the_check_is_not_empty() {
+fn figures_past_the_inequalities_are_found() {
     let figures = ask_numbers(SHEET_B.numbers()).expect("sheet B").figures;
     assert_eq!(inequalities(&SHEET_B, &figures, 10).len(), 12);
-    let bold = [
-        (
-            Figures {
-                area: figures.area + 1,
-                ..figures
-            },
-            "area lower from below",
-        ),
-        (
-            Figures {
-                area: figures.area - 10,
-                ..figures
-            },
-            "area upper from above",
-        ),
-        (
-            Figures {
-                axial: figures.axial + 1,
-                ..figures
-            },
-            "axial lower from below",
-        ),
-        (
-            Figures {
-                axial: figures.axial - 36,
-                ..figures
-            },
-            "axial upper from above",
-        ),
-        (
-            Figures {
-                shiftlo: figures.shiftlo + 1,
-                ..figures
-            },
-            "shift lower from below",
-        ),
-        (
-            Figures {
-                shifthi: figures.shifthi - 1,
-                ..figures
-            },
-            "shift upper from above",
-        ),
-    ];
-    for (figures, claim) in bold {
-        assert!(
-            failures(&SHEET_B, &figures, 10).contains(&claim.to_string()),
-            "{claim}"
-        );
+    let [area, axial, _, _, shiftlo, shifthi] = [0, 1, 2, 3, 4, 5];
+    for (place, by, claim) in [
+        (area, 1, "area lower from below"),
+        (area, -10, "area upper from above"),
+        (axial, 1, "axial lower from below"),
+        (axial, -36, "axial upper from above"),
+        (shiftlo, 1, "shift lower from below"),
+        (shifthi, -1, "shift upper from above"),
+    ] {
+        let mut numbers = figures.numbers();
+        numbers[place] += by;
+        let failed = failures(&SHEET_B, &Figures::from_numbers(numbers), 10);
+        assert!(failed.iter().any(|name| name == claim), "{claim}");
     }
 }
 
 #[test]
 fn every_kind_of_section_is_there() {
-    let all: Vec<(Sheet, Working)> = sections().into_iter().map(|s| (s, worked(&s))).collect();
+    let all = worked_sections();
     for (name, is_kind) in KINDS {
-        let count = all
-            .iter()
-            .filter(|(sheet, working)| is_kind(sheet, working))
-            .count();
-        assert!(count >= 5, "{count} of {name}");
+        assert!(count(&all, is_kind) >= 5, "{name}");
     }
     for rounds in 0..=8 {
-        assert!(
-            all.iter()
-                .filter(|(sheet, _)| sheet.rounds == rounds)
-                .count()
-                >= 20
-        );
+        assert!(count(&all, |sheet, _| sheet.rounds == rounds) >= 20);
     }
 }

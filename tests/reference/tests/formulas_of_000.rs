@@ -2,7 +2,7 @@
 //! from the formulas of sources 000 and 002 (spring stiffness K, second moment
 //! Is, critical stress), not from those of document 01.
 
-use reference::generate::{sections, worked};
+use reference::generate::worked_sections;
 use reference::pair::Pair;
 use reference::sheet::Sheet;
 
@@ -131,14 +131,13 @@ fn at_the_jump(plain: &Plain) -> bool {
 #[test]
 fn pairs_enclose_the_plain_working() {
     let mut passed_over = 0;
-    for sheet in sections() {
+    for (sheet, working) in worked_sections() {
         let plain = plain(&sheet);
         if at_the_jump(&plain) {
             passed_over += 1;
             continue;
         }
-        let working = worked(&sheet);
-        let [chi1, chi2] = working.chi();
+        let [chi1, chi2] = working.parts.chi;
         assert!(encloses(working.area, plain.area), "area of {sheet:?}");
         assert!(encloses(chi1, plain.chi[0]), "chi1 of {sheet:?}");
         assert!(encloses(chi2, plain.chi[1]), "chi2 of {sheet:?}");

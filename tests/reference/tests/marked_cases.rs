@@ -1,9 +1,10 @@
 //! The thirteen marked cases of document 01.
 
-use reference::generate::{SHEET_A, SHEET_B};
+use reference::cases::with;
+use reference::named::{LIP_LONG_ON_MID_LINES, SHEET_A, SHEET_B};
 use reference::pair::{Pair, Scale};
 use reference::rules::{lip_coefficient, thickness_factor, OUTSTAND, SUPPORTED};
-use reference::sheet::{ask_numbers, Refusal, Sheet};
+use reference::sheet::{ask_numbers, Sheet};
 use reference::text::{printed, sheet_text, write_from_text};
 
 fn scale() -> Scale {
@@ -14,8 +15,9 @@ fn point(units: i128) -> Pair {
     scale().pair(units, units)
 }
 
-fn refusal(sheet: Sheet) -> Refusal {
-    ask_numbers(sheet.numbers()).expect_err("a refusal")
+fn refused(sheet: Sheet) -> (u64, u64) {
+    let refusal = ask_numbers(sheet.numbers()).expect_err("a refusal");
+    (refusal.number, refusal.line)
 }
 
 #[test]
@@ -84,10 +86,8 @@ fn case_9_sheet_a() {
     let mut buffer = [7; 300];
     let answer = write_from_text(TEXT_A.as_bytes(), &mut buffer);
     let length = certificate.len();
-    assert_eq!(
-        (answer.number, answer.line, answer.length),
-        (0, 0, length as u64)
-    );
+    assert_eq!((answer.refusal, answer.line), (0, 0));
+    assert_eq!(answer.length as usize, length);
     assert_eq!(&buffer[..length], certificate.as_bytes());
     assert!(buffer[length..].iter().all(|&byte| byte == 7));
 }
@@ -103,49 +103,15 @@ fn case_10_sheet_b() {
 
 #[test]
 fn case_11_sheet_b_without_allowance() {
-    let sheet = Sheet {
-        allow: 0,
-        ..SHEET_B
-    };
-    assert_eq!(
-        refusal(sheet),
-        Refusal {
-            number: 11,
-            line: 12
-        }
-    );
+    assert_eq!(refused(with(SHEET_B, "allow=0")), (11, 12));
 }
 
 #[test]
 fn case_12_sheet_a_with_long_lip() {
-    let sheet = Sheet { c: 2600, ..SHEET_A };
-    assert_eq!(refusal(sheet), Refusal { number: 7, line: 3 });
+    assert_eq!(refused(with(SHEET_A, "c=2600")), (7, 3));
 }
 
 #[test]
 fn case_13_lip_ratio_on_mid_lines() {
-    let sheet = Sheet {
-        b1: 2000,
-        b2: 2000,
-        c: 1200,
-        r: 0,
-        tnom: 100,
-        t: 95,
-        ..SHEET_A
-    };
-    assert_eq!(refusal(sheet), Refusal { number: 9, line: 3 });
-}
-
-#[test]
-fn also_the_fourth_question_at_its_limit() {
-    let passing = Sheet {
-        b1: 12000,
-        ..SHEET_A
-    };
-    assert_eq!(refusal(passing).number, 7);
-    let refused = Sheet {
-        b1: 12001,
-        ..SHEET_A
-    };
-    assert_eq!(refusal(refused), Refusal { number: 4, line: 3 });
+    assert_eq!(refused(LIP_LONG_ON_MID_LINES), (9, 3));
 }

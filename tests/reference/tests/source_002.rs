@@ -1,9 +1,9 @@
 //! Sheet B against the values that source 002 prints.
 
-use reference::generate::{worked, SHEET_B};
+use reference::named::SHEET_B;
 use reference::pair::{Pair, Scale};
 use reference::sheet::Sheet;
-use reference::working::{Parts, Working};
+use reference::working::{worked, Parts, Working};
 
 /// Both ends round to the printed decimal, half up.
 fn rounds_to(pair: Pair, printed: &str) -> bool {
@@ -41,10 +41,11 @@ fn mid_line_lengths() {
 #[test]
 fn slenderness() {
     let b = sheet_b();
-    assert_rounds(b.flanges[0].u, "0.789");
-    assert_rounds(b.flanges[1].u, "0.702");
-    assert_rounds(b.lips[0].u, "0.614");
-    assert_rounds(b.lips[1].u, "0.614");
+    let [one, two] = b.rounds[0].stiffeners;
+    assert_rounds(one.flange.u, "0.789");
+    assert_rounds(two.flange.u, "0.702");
+    assert_rounds(one.lip.u, "0.614");
+    assert_rounds(two.lip.u, "0.614");
     assert_rounds(b.web.u, "2.171");
 }
 
@@ -60,14 +61,15 @@ fn lip_ratios() {
 #[test]
 fn parts_that_count() {
     let b = sheet_b();
-    assert_rounds(b.flanges[0].rho, "0.914");
-    assert_rounds(b.flanges[1].rho, "0.978");
-    assert_rounds(b.lips[0].rho, "1");
-    assert_rounds(b.lips[1].rho, "1");
+    let [one, two] = b.rounds[0].stiffeners;
+    assert_rounds(one.flange.rho, "0.914");
+    assert_rounds(two.flange.rho, "0.978");
+    assert_rounds(one.lip.rho, "1");
+    assert_rounds(two.lip.rho, "1");
     assert_rounds(b.web.rho, "0.414");
-    assert_rounds(b.be1[0], "32.9");
-    assert_rounds(b.be1[1], "31.3");
-    assert_rounds(b.he, "41");
+    assert_rounds(b.parts.be1[0], "32.9");
+    assert_rounds(b.parts.be1[1], "31.3");
+    assert_rounds(b.parts.he, "41");
 }
 
 #[test]
@@ -106,9 +108,9 @@ fn stiffeners_refined() {
 #[test]
 fn area_and_axis() {
     let b = sheet_b();
-    assert_rounds(b.lengths.t * b.gross_length, "732");
-    assert_rounds(b.gross_z, "96.88");
-    assert_rounds(b.z, "98.3");
+    assert_rounds(b.lengths.t * b.gross.length, "732");
+    assert_rounds(b.gross.z, "96.88");
+    assert_rounds(b.effective.z, "98.3");
 }
 
 /// Without rounds: 433.88 mm² and 98.82 mm, which 002 has from rounded
@@ -120,7 +122,7 @@ fn area_and_axis_without_rounds() {
         ..SHEET_B
     });
     assert_rounds(b.area, "434");
-    assert_rounds(b.z, "98.8");
+    assert_rounds(b.effective.z, "98.8");
 }
 
 /// With 002's own rounded parts, area and axis are as it prints them.
@@ -135,7 +137,7 @@ fn area_and_axis_from_rounded_parts() {
         c_eff: [s.exact(198, 10); 2],
         chi: [s.exact(69, 100), s.exact(75, 100)],
     };
-    let length = rounded.total_length();
-    assert_rounds(s.exact(196, 100) * length, "438.16");
-    assert_rounds(rounded.moment() / length, "98.39");
+    let axis = rounded.axis();
+    assert_rounds(s.exact(196, 100) * axis.length, "438.16");
+    assert_rounds(axis.z, "98.39");
 }

@@ -1,46 +1,44 @@
 //! The kept sheets lie near the thresholds at every end and distance that occurs,
 //! and the others do not occur.
 
-use reference::generate::worked;
+use reference::chance::{Chance, SEED};
 use reference::limits::{at_limit, limits};
-use reference::pair::Scale;
-use reference::thresholds::{kept, Cells, Near, KEPT, THRESHOLDS};
-use reference::{generate::Chance, generate::SEED, pair::Pair};
+use reference::pair::{Pair, Scale};
+use reference::thresholds::{kept, AtDistances, Near, KEPT, THRESHOLDS};
+use reference::working::worked;
 
 #[test]
 fn kept_sheets_lie_near_every_threshold() {
     let workings: Vec<_> = kept().into_iter().map(|s| (s, worked(&s))).collect();
     for threshold in &THRESHOLDS {
-        let mut near = Near::default();
-        for (sheet, working) in &workings {
-            near.count(threshold, sheet, working);
-        }
+        let near = Near::of(threshold, &workings);
         assert!(near.fewest(threshold) >= KEPT, "{}", threshold.name);
-        assert_eq!(near.cells.map(|end| end.map(|n| n > 0)), threshold.occur);
+        let occur = near.at_distances.map(|end| end.map(|n| n > 0));
+        assert_eq!(occur, threshold.occur, "{}", threshold.name);
     }
 }
 
 /// Which ends lie at which distance from a mark.
-fn shown(pairs: impl Iterator<Item = Pair>, mark: i128) -> Cells<bool> {
-    let mut cells = Cells::default();
+fn shown(pairs: impl Iterator<Item = Pair>, mark: i128) -> AtDistances<bool> {
+    let mut shown = AtDistances::default();
     for pair in pairs {
         for (end, distance) in [pair.lo - mark, pair.hi - mark].into_iter().enumerate() {
             if distance.abs() <= 2 {
-                cells[end][(distance + 2) as usize] = true;
+                shown[end][(distance + 2) as usize] = true;
             }
         }
     }
-    cells
+    shown
 }
 
-fn occur(name: &str) -> Cells<bool> {
+fn occur(name: &str) -> AtDistances<bool> {
     let mut all = THRESHOLDS.iter();
     all.find(|t| t.name == name).expect("a threshold").occur
 }
 
 /// Every cp near 0.35 bp, in half hundredths, of every bp up to 200 mm.
 #[test]
-fn ratios_near_the_turn() {
+fn ratios_near_the_threshold() {
     let s = Scale::multiple(1);
     let ratios = (1000..20_000).flat_map(|bp: i128| {
         let twice = 7 * bp / 10;
@@ -51,7 +49,7 @@ fn ratios_near_the_turn() {
 
 /// Every fourth power near that of the threshold, in units.
 #[test]
-fn stiffener_slenderness_near_the_turns() {
+fn stiffener_slenderness_near_the_thresholds() {
     let s = Scale::multiple(1);
     let roots = |mark: i128| {
         let fourth = mark * mark / 1_000_000 * mark / 1_000_000 * mark / 1_000_000;
@@ -61,7 +59,8 @@ fn stiffener_slenderness_near_the_turns() {
     assert_eq!(shown(roots(1_380_000), 1_380_000), occur("ud at 1.38"));
 }
 
-/// Nothing lies below 0, and the form has no value but 0 and 1 within its range.
+/// No number lies below 0, so a limit at 0 has no sheets past it; and two units
+/// within its range the form would be below 0 or above 1.
 #[test]
 fn limits_are_reached_from_both_sides() {
     let mut chance = Chance::seeded(SEED);

@@ -5,7 +5,7 @@
 //! makes FOLDER/crates/{certify,verify,certificate_cases} and FOLDER/examples.
 
 use reference::cases::{certificate_of, certificates, sheets, text_of, z_section};
-use reference::generate::{SHEET_A, SHEET_B};
+use reference::named::{SHEET_A, SHEET_B};
 use reference::sheet::Sheet;
 use reference::text::{
     check, printed, printed_check, write_from_numbers, write_from_text, Answer, LONGEST_CERTIFICATE,
@@ -54,37 +54,38 @@ fn program(folder: &Path, name: &str, stdin: &str, stdout: &str) -> io::Result<(
 fn certificate_cases(folder: &Path) -> io::Result<()> {
     let own = folder.join("crates").join("certificate_cases");
     let (mut args, mut stdout) = (String::new(), String::new());
+    let mut add = |name: String, text: &[u8], answer: String| {
+        stdout += &format!("{name}:{answer}");
+        args += &format!("{name}\n");
+        put(&own.join("data").join(name), text)
+    };
     for case in sheets() {
         let name = format!("sheets/{}", case.name);
-        put(&own.join("data").join(&name), &case.text)?;
-        stdout += &format!("{name}:{}", written(&case.text));
-        args += &format!("{name}\n");
+        add(name, &case.text, write_answers(&case.text))?;
     }
     for case in certificates() {
         let name = format!("certificates/{}", case.name);
-        put(&own.join("data").join(&name), &case.text)?;
-        stdout += &format!("{name}:{}", numbers(check(&case.text)));
-        args += &format!("{name}\n");
+        add(name, &case.text, line_of(check(&case.text)))?;
     }
     put(&own.join("args"), args)?;
     put(&own.join("stdout"), stdout)
 }
 
-fn numbers(answer: Answer) -> String {
-    format!(" {} {} {}\n", answer.number, answer.line, answer.length)
+fn line_of(answer: Answer) -> String {
+    format!(" {} {} {}\n", answer.refusal, answer.line, answer.length)
 }
 
 /// The answer; of an accepted sheet also the certificate, and what a buffer of
 /// just its length and one of a byte less answer.
-fn written(sheet: &[u8]) -> String {
+fn write_answers(sheet: &[u8]) -> String {
     let mut buffer = [0; LONGEST_CERTIFICATE];
     let answer = write_from_text(sheet, &mut buffer);
     let length = answer.length as usize;
-    let mut text = numbers(answer) + &String::from_utf8_lossy(&buffer[..length]);
-    if answer.number == 0 {
+    let mut text = line_of(answer) + &String::from_utf8_lossy(&buffer[..length]);
+    if answer.refusal == 0 {
         for room in [length, length - 1] {
             let answer = write_from_text(sheet, &mut buffer[..room]);
-            text += &format!("room {room}:{}", numbers(answer));
+            text += &format!("room {room}:{}", line_of(answer));
         }
     }
     text
@@ -108,33 +109,30 @@ fn example_output() -> String {
         allow: 0,
         ..SHEET_B
     };
-    let wrote = |sheet: Sheet, room| write_from_numbers(sheet.numbers(), &mut vec![0; room]);
+    let write = |sheet: Sheet, room| write_from_numbers(sheet.numbers(), &mut vec![0; room]);
+    let written = write(SHEET_B, LONGEST_CERTIFICATE);
+    let refused = write(no_allowance, LONGEST_CERTIFICATE);
     [
-        told(
-            "Certificate from twelve numbers",
-            wrote(SHEET_B, LONGEST_CERTIFICATE),
-        ),
+        told("Certificate from twelve numbers", written),
         certificate.clone(),
         told("Checked", check(certificate.as_bytes())),
         told("Checked with a digit changed", check(&changed)),
-        told(
-            "Certificate of the sheet with allow=0",
-            wrote(no_allowance, LONGEST_CERTIFICATE),
-        ),
-        told("Certificate in a buffer of 100 bytes", wrote(SHEET_B, 100)),
+        told("Certificate of the sheet with allow=0", refused),
+        told("Certificate in a buffer of 100 bytes", write(SHEET_B, 100)),
     ]
     .concat()
 }
 
+/// An answer in the words of the examples.
 fn told(what: &str, answer: Answer) -> String {
     let Answer {
-        number,
+        refusal,
         line,
         length,
     } = answer;
-    match number {
+    match refusal {
         0 => format!("{what}: in order, {length} bytes\n"),
         12 => format!("{what}: the buffer is too short, {length} bytes are needed\n"),
-        _ => format!("{what}: refused, question {number}, line {line}\n"),
+        _ => format!("{what}: refused, question {refusal}, line {line}\n"),
     }
 }

@@ -1,16 +1,21 @@
 //! Writes test sections and their expected results, sheets at the edges of the
-//! questions, every intermediate pair of sheet B, or sheets near the thresholds.
+//! questions, every intermediate pair of sheet B, or sheets near the thresholds; or
+//! prints how many of the sections are of each kind.
 //!
 //! sections INPUTS RESULTS
 //! sections --edges INPUTS RESULTS
 //! sections --intermediate FILE
 //! sections --thresholds FILE
+//! sections --kinds
 
+use reference::chance::{Chance, SEED};
 use reference::edges::edges;
-use reference::generate::{sections, worked, Chance, KINDS, SEED, SHEET_B};
+use reference::generate::worked_sections;
+use reference::kinds::{count, KINDS};
+use reference::named::SHEET_B;
 use reference::sheet::{ask_before_working, Figures, Sheet};
 use reference::thresholds::{search, KEPT, THRESHOLDS};
-use reference::working::Working;
+use reference::working::{worked, Working};
 use std::fmt::Display;
 use std::process::ExitCode;
 use std::{env, fs, io};
@@ -21,10 +26,14 @@ fn main() -> ExitCode {
         ["--intermediate", file] => fs::write(file, intermediate_lines(&SHEET_B)),
         ["--thresholds", file] => fs::write(file, threshold_lines()),
         ["--edges", inputs, results] => write_edges(inputs, results),
+        ["--kinds"] => {
+            print_kinds();
+            Ok(())
+        }
         [inputs, results] => write_sections(inputs, results),
         _ => {
             eprintln!(
-                "sections [--edges] INPUTS RESULTS | sections --intermediate|--thresholds FILE"
+                "sections [--edges] INPUTS RESULTS | --intermediate|--thresholds FILE | --kinds"
             );
             return ExitCode::FAILURE;
         }
@@ -39,34 +48,28 @@ fn main() -> ExitCode {
 }
 
 fn write_sections(inputs: &str, results: &str) -> io::Result<()> {
-    let all: Vec<(Sheet, Working)> = sections().into_iter().map(|s| (s, worked(&s))).collect();
-    let input_lines: String = all
+    let all = worked_sections();
+    let input_lines = all.iter().map(|(sheet, _)| line(&sheet.numbers()));
+    let result_lines = all
         .iter()
-        .map(|(sheet, _)| line(&sheet.numbers()))
-        .collect();
-    let result_lines: String = all
-        .iter()
-        .map(|(sheet, working)| result_line(sheet, working))
-        .collect();
-    fs::write(inputs, input_lines)?;
-    fs::write(results, result_lines)?;
-    print_counts(&all);
-    Ok(())
+        .map(|(sheet, working)| result_line(sheet, working));
+    fs::write(inputs, input_lines.collect::<String>())?;
+    fs::write(results, result_lines.collect::<String>())
 }
 
 /// A sheet that meets questions 2 to 10 has its line of results, any other
 /// `refused`, the question and the line.
 fn write_edges(inputs: &str, results: &str) -> io::Result<()> {
     let all = edges();
-    let result_lines: String = all
+    let input_lines = all.iter().map(|numbers| line(numbers));
+    let result_lines = all
         .iter()
         .map(|numbers| match ask_before_working(*numbers) {
             Ok(sheet) => result_line(&sheet, &worked(&sheet)),
             Err(refusal) => format!("refused {} {}\n", refusal.number, refusal.line),
-        })
-        .collect();
-    fs::write(inputs, all.iter().map(|n| line(n)).collect::<String>())?;
-    fs::write(results, result_lines)
+        });
+    fs::write(inputs, input_lines.collect::<String>())?;
+    fs::write(results, result_lines.collect::<String>())
 }
 
 /// Decimal numbers separated by one blank.
@@ -77,7 +80,7 @@ fn line<T: Display>(numbers: &[T]) -> String {
 
 /// Ends of area, chi1, chi2 and shift, then the six printed figures.
 fn result_line(sheet: &Sheet, working: &Working) -> String {
-    let [chi1, chi2] = working.chi();
+    let [chi1, chi2] = working.parts.chi;
     let mut numbers = Vec::new();
     for pair in [working.area, chi1, chi2, working.shift] {
         numbers.extend([pair.lo, pair.hi]);
@@ -106,20 +109,14 @@ fn threshold_lines() -> String {
     lines
 }
 
-fn print_counts(all: &[(Sheet, Working)]) {
-    eprintln!("{:4} sections", all.len());
+fn print_kinds() {
+    let all = worked_sections();
+    println!("{:4} sections", all.len());
     for (name, is_kind) in KINDS {
-        let count = all
-            .iter()
-            .filter(|(sheet, working)| is_kind(sheet, working))
-            .count();
-        eprintln!("{count:4} {name}");
+        println!("{:4} {name}", count(&all, is_kind));
     }
     for rounds in 0..=8 {
-        let count = all
-            .iter()
-            .filter(|(sheet, _)| sheet.rounds == rounds)
-            .count();
-        eprintln!("{count:4} rounds {rounds}");
+        let with_rounds = count(&all, |sheet, _| sheet.rounds == rounds);
+        println!("{with_rounds:4} rounds {rounds}");
     }
 }

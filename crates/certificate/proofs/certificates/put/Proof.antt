@@ -1,6 +1,7 @@
 -- `certificate::certificates::put` meets its contract.
 use borrow.Author.Needs.{needs}
-use Prim.Native.Nat.{ℕ}
+use Prim.Native.Nat.{ℕ, _≤_}
+use mathlib.Core.Logic.{⊎-elim}
 use mathlib.Core.Path.{_≡_, ap, _∙_}
 use mathlib.Core.List.{List}
 use native.Mathlib.Omega.{arith}
@@ -11,6 +12,7 @@ use Rattle.text.specs.Keys.{certificateLines}
 use Rattle.text.specs.Lines.{over, linesText, linesBetween}
 use Rattle.text.specs.Forms.{integers}
 use Rattle.text.proofs.LineLaws.{lines-all}
+use Rattle.text.proofs.Theorems.{longest-certificate}
 use Rattle.certificate.specs.declared.Refusal.the-variants.{Room}
 use Rattle.certificate.specs.Refusals.{told}
 use Rattle.certificate.proofs.OutcomeSteps.{fits, too-long, answers-refusal, answers-text}
@@ -24,6 +26,19 @@ count c = search needs
 all-lines : (vs : List Integer) → length vs ≡ certificateLines → linesBetween 0 certificateLines (integers vs) ≡ linesText (integers vs)
 all-lines vs n = lines-all certificateLines (integers vs) (omega (arith, length-map vs integer, n))
 
+-- all lines of the code's values
+lines : (c : tie.Start) → linesBetween 0 certificateLines (integers (c .args .values)) ≡ linesText (integers (c .args .values))
+lines c = all-lines (c .args .values) (count c)
+
+-- behind the tests there is room, be it that the length was found or that the buffer takes every certificate
+room : (c : tie.Joined1) → length (linesText (integers (c .before .before .args .values))) ≤ length (c .before .before .args .buffer .now)
+room c =
+    let s = c .before .before in
+    ⊎-elim
+    (λ w. omega (arith, w .1 .ensures .0, ap length (lines s), w .2 .left))
+    (λ w. omega (arith, s .pre, longest-certificate, w .left))
+    (c .if1 .came)
+
 lines-length-requires : tie.Need-lines-length-requires
 lines-length-requires c κs = (omega arith, omega arith)
 
@@ -32,13 +47,14 @@ told-of-requires c κs = search needs
 
 returns : tie.Need-returns
 returns c =
-    let a = c .before .before .before .before .args in
-    let t = linesText (integers (a .values)) in
-    let needed = c .before .before .lines-length .ensures .0 ∙ ap length (all-lines (a .values) (count (c .before .before .before .before))) in
-    answers-refusal _ _ (a .buffer .now) (Room (length t)) (too-long (length (a .buffer .now)) t (omega (arith, needed, c .before .if1 .taken))) (c .told-of .ensures ∙ ap (λ (n : ℕ). told (Room n)) needed)
+    let s = c .before .before .before .before .before in
+    let b = s .args .buffer .now in
+    let t = linesText (integers (s .args .values)) in
+    let needed = c .before .before .lines-length .ensures .0 ∙ ap length (lines s) in
+    answers-refusal _ _ b (Room (length t)) (too-long (length b) t (omega (arith, needed, c .before .if2 .taken))) (c .told-of .ensures ∙ ap (λ (n : ℕ). told (Room n)) needed)
 
 write-lines-requires : tie.Need-write-lines-requires
-write-lines-requires c κs = (omega arith, (omega arith, omega (arith, c .before .before .lines-length .ensures .0, c .before .if1 .left)))
+write-lines-requires c κs = (omega arith, (omega arith, omega (arith, room (c .before), ap length (lines (c .before .before .before)))))
 
 answer-requires : tie.Need-answer-requires
 answer-requires c κs = search needs
@@ -48,13 +64,12 @@ same-length c = search needs
 
 returns-2 : tie.Need-returns-2
 returns-2 c =
-    let a = c .before .before .before .before .before .before .before .before .args in
-    let t = linesText (integers (a .values)) in
-    let all = all-lines (a .values) (count (c .before .before .before .before .before .before .before .before)) in
-    let needed = c .before .before .before .before .before .before .lines-length .ensures .0 ∙ ap length all in
+    let j = c .before .before .before .before .before in
+    let s = j .before .before in
+    let b = s .args .buffer .now in
+    let t = linesText (integers (s .args .values)) in
     let w = c .before .before .before .write-lines .ensures in
-    answers-text _ _ (a .buffer .now) t _ _ (fits (length (a .buffer .now)) t (omega (arith, needed, c .before .before .before .before .before .if1 .left))) (w .0 ∙ ap length all) (c .answer .ensures)
-    (w .1 ∙ ap (λ (l : List ℕ). over l (a .buffer .now)) all)
+    answers-text _ _ b t _ _ (fits (length b) t (room j)) (w .0 ∙ ap length (lines s)) (c .answer .ensures) (w .1 ∙ ap (λ (l : List ℕ). over l b) (lines s))
 
 pub put-spec : {M : Type 1} → statement M
 put-spec =

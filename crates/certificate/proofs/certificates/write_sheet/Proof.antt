@@ -1,12 +1,14 @@
 -- `certificate::certificates::write_sheet` meets its contract.
 use borrow.Author.Needs.{needs}
-use mathlib.Core.Path.{sym, ap, _∙_}
+use Prim.Native.Nat.{_≤_}
+use mathlib.Core.Path.{sym, ap, _∙_, subst}
 use mathlib.Core.List.{List}
 use lib.IntN.{ℤ}
 use lib.ListN.{length}
-use Rattle.text.specs.Lines.{linesText}
+use Rattle.text.specs.Keys.{certificateLines}
+use Rattle.text.specs.Lines.{linesText, longest}
 use Rattle.certificate.specs.Outcome.{Outcome, fitted, answerOf, bufferAfter}
-use Rattle.certificate.proofs.OutcomeSteps.{judged-refusal, judged-figures, refused-by-verdict, room-asked, answers-refusal}
+use Rattle.certificate.proofs.OutcomeSteps.{judged-refusal, judged-figures, refused-by-verdict, room-asked, accepted-length, answers-refusal}
 use Rattle.certificate.proofs.certificates.write_sheet.Statement.{statement}
 use Rattle.certificate.proofs.certificates.write_sheet.Tie as tie
 
@@ -26,7 +28,10 @@ line-values-requires : tie.Need-line-values-requires
 line-values-requires c κs = search needs
 
 put-requires : tie.Need-put-requires
-put-requires c κs = search needs
+put-requires c κs =
+    let s = c .before .before .before .before .before .before .before in
+    subst (λ (vs : List ℤ). length (linesText vs) ≤ longest certificateLines) (sym (c .before .line-values .ensures))
+    (accepted-length (s .args .q) (judged-figures (c .before .before .before .before .before .verdict-of .ensures) (c .before .before .before .verdict2 .given .1)))
 
 returns : tie.Need-returns
 returns c =

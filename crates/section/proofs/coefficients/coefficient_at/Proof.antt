@@ -1,5 +1,5 @@
 -- `section::coefficients::coefficient_at` meets its contract.
-use Rattle.section.proofs.CoefficientForms.{half-room, past-room, k-at-most, k-at-past}
+use Rattle.section.proofs.CoefficientForms.{half-room, at-ratio, past-room, k-at-most, k-at-past}
 use borrow.Author.Needs.{needs}
 use Rattle.section.proofs.coefficients.coefficient_at.Statement.{statement}
 use Rattle.section.proofs.coefficients.coefficient_at.Tie as tie
@@ -17,7 +17,7 @@ returns : tie.Need-returns
 returns c = k-at-most (c .before .before .args .n) (c .before .before .args .q) (c .before .if1 .taken) (c .ratio .ensures)
 
 coefficient-past-requires : tie.Need-coefficient-past-requires
-coefficient-past-requires c κs = past-room (c .before .pre .0) (c .if1 .left) (c .before .pre .1)
+coefficient-past-requires c κs = past-room (at-ratio (c .before .pre .0) (c .before .pre .1)) (c .if1 .left)
 
 returns-2 : tie.Need-returns-2
 returns-2 c = k-at-past (c .before .before .args .n) (c .before .before .args .q) (c .before .if1 .left) (c .coefficient-past .ensures)

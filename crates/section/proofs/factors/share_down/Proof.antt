@@ -1,5 +1,5 @@
 -- `section::factors::share_down` meets its contract.
-use Rattle.section.proofs.ShareForms.{dividend-fits, once-down, full-down, share-down-is}
+use Rattle.section.proofs.ShareForms.{dividend-fits, square-fits, down-fits, full-down, share-down-is}
 use borrow.Author.Needs.{needs}
 use Rattle.section.proofs.factors.share_down.Statement.{statement}
 use Rattle.section.proofs.factors.share_down.Tie as tie
@@ -16,11 +16,11 @@ sub-floor-of c = search needs
 mul-floor-of : tie.Need-mul-floor-of
 mul-floor-of c = record { fits = dividend-fits (c .before .pre) }
 
-floor-of-requires : tie.Need-floor-of-requires
-floor-of-requires c κs = once-down (c .before .pre) (c .if1 .left)
+mul-floor-of-2 : tie.Need-mul-floor-of-2
+mul-floor-of-2 c = record { fits = square-fits (c .before .pre) }
 
-div-smaller : tie.Need-div-smaller
-div-smaller c = search needs
+floor-of-requires : tie.Need-floor-of-requires
+floor-of-requires c κs = down-fits (c .before .pre) (c .if1 .left)
 
 smaller-requires : tie.Need-smaller-requires
 smaller-requires c κs = search needs
@@ -37,7 +37,7 @@ share-down-spec =
     returns
     sub-floor-of
     mul-floor-of
+    mul-floor-of-2
     floor-of-requires
-    div-smaller
     smaller-requires
     returns-2)

@@ -1,6 +1,6 @@
 -- `section::rounds::first_round` meets its contract.
 use Rattle.section.specs.Working.{rounds}
-use Rattle.section.proofs.CoefficientForms.{one-room, one-factor}
+use Rattle.section.proofs.RoundForms.{one-room, one-factor}
 use borrow.Author.Needs.{needs}
 use Rattle.section.proofs.rounds.first_round.Statement.{statement}
 use Rattle.section.proofs.rounds.first_round.Tie as tie

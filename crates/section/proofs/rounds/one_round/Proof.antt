@@ -8,22 +8,23 @@ use Rattle.section.proofs.rounds.one_round.Tie as tie
 stiffener-of-requires : tie.Need-stiffener-of-requires
 stiffener-of-requires c κs = search needs
 
-stiffener-of-requires-2 : tie.Need-stiffener-of-requires-2
-stiffener-of-requires-2 c κs = search needs
+second-stiffener-requires : tie.Need-second-stiffener-requires
+second-stiffener-requires c κs = search needs
 
 factors-of-requires : tie.Need-factors-of-requires
 factors-of-requires c κs =
-    rw (c .stiffener-of2 .ensures, c .before .stiffener-of .ensures) (c .before .before .before .before .pre .rest)
+    rw (c .second-stiffener .ensures, c .before .stiffener-of .ensures) (c .before .before .before .before .pre .rest)
 
 returns : tie.Need-returns
 unfolding round
 returns c =
-    let start = c .before .before .before .before .before in
-    let n = start .args .n in
+    let a = c .before .before .before .before .before .args in
     let one = c .before .before .stiffener-of .ensures in
-    let two = c .before .stiffener-of2 .ensures in
-    c .factors-of .ensures ∙ (λ i. factors n (mm n (start .args .t .0)) (whole n (start .args .fyb)) (start .args .hp) (start .args .f1 .bp) (start .args .f2 .bp) (one i) (two i))
+    let two = c .before .second-stiffener .ensures in
+    c .factors-of .ensures
+    ∙ (λ i. factors (a .n) (mm (a .n) (a .t .0)) (whole (a .n) (a .fyb)) (a .hp) (a .f1 .bp) (a .f2 .bp) (one i) (two i))
 
 pub one-round-spec : {M : Type 1} → statement M
 one-round-spec =
-    tie.close (tie.spec stiffener-of-requires stiffener-of-requires-2 factors-of-requires returns)
+    tie.close
+    (tie.spec stiffener-of-requires second-stiffener-requires factors-of-requires returns)

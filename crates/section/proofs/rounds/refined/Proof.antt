@@ -6,7 +6,8 @@ use native.Mathlib.Omega.{arith}
 use Rattle.section.specs.declared.Round.{Round}
 use Rattle.section.specs.Working.{rounds, mm, whole}
 use Rattle.section.specs.Room.{Factor}
-use Rattle.section.proofs.CoefficientForms.{factors-most, next-round, settled, same-ends}
+use Rattle.section.proofs.RoundForms.{factors-most, next-round, settled, own-stiffeners}
+use Rattle.section.proofs.SamePairs.{same-ends}
 use borrow.Author.Needs.{needs}
 use Rattle.section.proofs.rounds.refined.Statement.{statement}
 use Rattle.section.proofs.rounds.refined.Tie as tie
@@ -21,8 +22,10 @@ abbrev μ-loop : tie.MeasureT-loop
 loop-holds : tie.Need-loop-holds Inv-loop μ-loop
 loop-holds c = (omega arith, c .pre .1, rw (c .pre .1) (factors-most (c .pre .0) 0 .0), rw (c .pre .1) (factors-most (c .pre .0) 0 .1))
 
-one-round-requires : tie.Need-one-round-requires Inv-loop μ-loop
-one-round-requires c κs = c .before .before .before .before .pre .0 .room _ _ (c .before .before .before .loop .inv .2) (c .before .before .before .loop .inv .3)
+next-round-requires : tie.Need-next-round-requires Inv-loop μ-loop
+next-round-requires c κs =
+    let loop = c .before .before .before .loop in
+    (c .before .before .before .before .pre .0 .room _ _ (loop .inv .2) (loop .inv .3), own-stiffeners _ _ _ _ _ _ _ (loop .i) (loop .inv .1))
 
 same-requires : tie.Need-same-requires Inv-loop μ-loop
 same-requires c κs = search needs
@@ -34,7 +37,7 @@ returns : tie.Need-returns Inv-loop μ-loop
 returns c =
     let start = c .before .before .before .before .before .before .before .before .before in
     let loop = c .before .before .before .before .before .before .before .before .loop in
-    let call = c .before .before .before .before .one-round in
+    let call = c .before .before .before .before .next-round in
     let n = start .args .n in
     let now = loop .inv .1 in
     let next = next-round n (loop .i) _ _ _ _ _ _ now (call .ensures) ∙ ap (rounds n (mm n (start .args .t .0)) (whole n (start .args .fyb)) (start .args .hp) (start .args .cp) (start .args .f1) (start .args .f2)) (add-one (loop .i)) in
@@ -56,7 +59,7 @@ loop-again : tie.Need-loop-again Inv-loop μ-loop
 loop-again c =
     let start = c .before .before .before .before .before .before .before in
     let loop = c .before .before .before .before .before .before .loop in
-    let call = c .before .before .one-round in
+    let call = c .before .before .next-round in
     let next = next-round (start .args .n) (loop .i) _ _ _ _ _ _ (loop .inv .1) (call .ensures) in
     (omega (arith, c .before .before .before .before .before .loop-test .taken), next, rw (call .ensures) (start .pre .0 .one _ _ (loop .inv .2) (loop .inv .3)), rw (call .ensures) (start .pre .0 .two _ _ (loop .inv .2) (loop .inv .3)))
 
@@ -72,7 +75,7 @@ refined-spec =
     Inv-loop
     μ-loop
     loop-holds
-    one-round-requires
+    next-round-requires
     same-requires
     same-requires-2
     returns

@@ -1,5 +1,6 @@
 -- `section::rounds::stiffener_of` meets its contract.
 use mathlib.Core.Path.{_≡_, ap, ap₂, _∙_}
+use Prim.Native.Nat.{ℕ}
 use Rattle.pair.specs.Pairs.{plus, times, root}
 use Rattle.pair.specs.Fits.{plusFits}
 use Rattle.pair.specs.declared.Pair.{Pair}
@@ -17,58 +18,53 @@ times-requires c κs = search needs
 times-requires-2 : tie.Need-times-requires-2
 times-requires-2 c κs = search needs
 
-roots-requires : tie.Need-roots-requires
-roots-requires c κs =
+shares-requires : tie.Need-shares-requires
+shares-requires c κs =
     let room = c .before .before .before .pre in
-    (rw (c .before .times .ensures) (room .plane .radicand), rw (c .times2 .ensures) (room .lip .radicand))
+    let plane = c .before .times .ensures in
+    let lip = c .times2 .ensures in
+    (rw plane (room .plane .radicand), rw lip (room .lip .radicand), rw plane (room .plane .slim), rw lip (room .lip .slim))
 
--- u of the plane and of the lip
-module _ (c : tie.After-roots) where
+-- the parts of plane and lip that count
+module _ (c : tie.After-shares) where
   abbrev start : tie.Start
   start = c .before .before .before .before
 
-  abbrev plane-u : Pair
-  plane-u = root (S (start .args .n)) (times (S (start .args .n)) (start .args .f .plane) (start .args .before))
+  abbrev n : ℕ
+  n = start .args .n
 
-  abbrev lip-u : Pair
-  lip-u = root (S (start .args .n)) (times (S (start .args .n)) (start .args .f .lip) (start .args .before))
+  abbrev plane-part : Pair
+  plane-part = ρ-plane n (root (S n) (times (S n) (start .args .f .plane) (start .args .before)))
 
-  plane-is : c .roots .result .one ≡ plane-u
-  plane-is = c .roots .ensures .0 ∙ ap (root (S (start .args .n))) (c .before .before .times .ensures)
+  abbrev lip-part : Pair
+  lip-part = ρ-lip n (root (S n) (times (S n) (start .args .f .lip) (start .args .before)))
 
-  lip-is : c .roots .result .two ≡ lip-u
-  lip-is = c .roots .ensures .1 ∙ ap (root (S (start .args .n))) (c .before .times2 .ensures)
+  plane-is : c .shares .result .one ≡ plane-part
+  plane-is = c .shares .ensures .0 ∙ ap (λ (x : Pair). ρ-plane n (root (S n) x)) (c .before .before .times .ensures)
 
-plane-share-requires : tie.Need-plane-share-requires
-plane-share-requires c κs = rw (plane-is c) (start c .pre .plane .slim)
-
-lip-share-requires : tie.Need-lip-share-requires
-lip-share-requires c κs = rw (lip-is (c .before)) (start (c .before) .pre .lip .slim)
+  lip-is : c .shares .result .two ≡ lip-part
+  lip-is = c .shares .ensures .1 ∙ ap (λ (x : Pair). ρ-lip n (root (S n) x)) (c .before .times2 .ensures)
 
 half-kept-requires : tie.Need-half-kept-requires
-half-kept-requires c κs = rw (c .before .plane-share .ensures, plane-is (c .before .before)) (start (c .before .before) .pre .plane .half)
+half-kept-requires c κs = rw (plane-is c) (start c .pre .plane .half)
 
 times-requires-3 : tie.Need-times-requires-3
-times-requires-3 c κs = rw (c .before .lip-share .ensures, lip-is (c .before .before .before)) (start (c .before .before .before) .pre .lip .part)
+times-requires-3 c κs = rw (lip-is (c .before)) (start (c .before) .pre .lip .part)
 
 -- be2 and c_eff
 module _ (c : tie.After-times3) where
-  abbrev u : tie.After-roots
-  u = c .before .before .before .before
+  abbrev parts : tie.After-shares
+  parts = c .before .before
 
-  be2-is : c .before .half-kept .result ≡ half-kept (start u .args .n) (ρ-plane (start u .args .n) (plane-u u)) (start u .args .f .bp)
-  be2-is =
-      let n = start u .args .n in
-      c .before .half-kept .ensures ∙ ap (λ (x : Pair). half-kept n x (start u .args .f .bp)) (c .before .before .before .plane-share .ensures ∙ ap (ρ-plane n) (plane-is u))
+  be2-is : c .before .half-kept .result ≡ half-kept (n parts) (plane-part parts) (start parts .args .f .bp)
+  be2-is = c .before .half-kept .ensures ∙ ap (λ (x : Pair). half-kept (n parts) x (start parts .args .f .bp)) (plane-is parts)
 
-  c-is : c .times3 .result ≡ times (S (start u .args .n)) (ρ-lip (start u .args .n) (lip-u u)) (start u .args .cp)
-  c-is =
-      let n = start u .args .n in
-      c .times3 .ensures ∙ ap (λ (x : Pair). times (S n) x (start u .args .cp)) (c .before .before .lip-share .ensures ∙ ap (ρ-lip n) (lip-is u))
+  c-is : c .times3 .result ≡ times (S (n parts)) (lip-part parts) (start parts .args .cp)
+  c-is = c .times3 .ensures ∙ ap (λ (x : Pair). times (S (n parts)) x (start parts .args .cp)) (lip-is parts)
 
 plus-requires : tie.Need-plus-requires
 unfolding stiffener-of
-plus-requires c κs = ap₂ (λ (x y : Pair). plusFits x y) (be2-is c) (c-is c) ∙ start (u c) .pre .sum
+plus-requires c κs = ap₂ (λ (x y : Pair). plusFits x y) (be2-is c) (c-is c) ∙ start (parts c) .pre .sum
 
 returns : tie.Need-returns
 unfolding stiffener-of
@@ -84,9 +80,7 @@ stiffener-of-spec =
     mul-s
     times-requires
     times-requires-2
-    roots-requires
-    plane-share-requires
-    lip-share-requires
+    shares-requires
     half-kept-requires
     times-requires-3
     plus-requires

@@ -3,7 +3,7 @@ use mathlib.Core.Path.{ap, _∙_}
 use Rattle.pair.specs.Pairs.{plus}
 use Rattle.pair.specs.declared.Pair.{Pair}
 use Rattle.section.specs.Working.{full}
-use Rattle.section.proofs.CoefficientForms.{one-room}
+use Rattle.section.proofs.RoundForms.{one-room}
 use borrow.Author.Needs.{needs}
 use Rattle.section.proofs.sections.full_section.Statement.{statement}
 use Rattle.section.proofs.sections.full_section.Tie as tie

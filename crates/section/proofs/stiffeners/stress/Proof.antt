@@ -1,4 +1,7 @@
 -- `section::stiffeners::stress` meets its contract.
+use lib.Dec.{lit<}
+use Rattle.pair.proofs.Ratios.{over-twice}
+use Rattle.pair.proofs.Bounds.{over-twice-fits}
 use Rattle.section.specs.Working.{T}
 use borrow.Author.Needs.{needs}
 use Rattle.section.proofs.stiffeners.stress.Statement.{statement}
@@ -10,17 +13,15 @@ mul-scale c = search needs
 constant-times-requires : tie.Need-constant-times-requires
 constant-times-requires c κs = search needs
 
-over-ratio-requires : tie.Need-over-ratio-requires
-over-ratio-requires c κs = rw (c .constant-times .ensures) (c .before .before .pre .thick)
+mul-over-ratio : tie.Need-mul-over-ratio
+mul-over-ratio c = search needs
 
-over-ratio-requires-2 : tie.Need-over-ratio-requires-2
-over-ratio-requires-2 c κs = rw (c .over-ratio .ensures, c .before .constant-times .ensures) (c .before .before .before .pre .modulus)
+over-ratio-requires : tie.Need-over-ratio-requires
+over-ratio-requires c κs = rw (c .before .constant-times .ensures) (over-twice-fits _ _ _ 100 210 (c .before .before .before .pre .thick) (c .before .before .before .pre .modulus))
 
 returns : tie.Need-returns
 unfolding T
-returns c = rw (c .over-ratio2 .ensures, c .before .over-ratio .ensures, c .before .before .constant-times .ensures)
+returns c = rw (c .over-ratio .ensures, c .before .before .constant-times .ensures) (over-twice _ _ _ 100 210 (lit< tt) (c .before .before .before .before .pre .thick))
 
 pub stress-spec : {M : Type 1} → statement M
-stress-spec =
-    tie.close
-    (tie.spec mul-scale constant-times-requires over-ratio-requires over-ratio-requires-2 returns)
+stress-spec = tie.close (tie.spec mul-scale constant-times-requires mul-over-ratio over-ratio-requires returns)

@@ -1,5 +1,5 @@
 -- `section_cases::trace::effective_of` meets its contract.
-use Rattle.section.proofs.CoefficientForms.{one-factor}
+use Rattle.section.proofs.RoundForms.{one-factor}
 use borrow.Author.Needs.{needs}
 use Rattle.section_cases.proofs.trace.effective_of.Statement.{statement}
 use Rattle.section_cases.proofs.trace.effective_of.Tie as tie

@@ -1,5 +1,5 @@
 -- `section_cases::trace::first` is safe.
-use Rattle.section.proofs.CoefficientForms.{one-room, one-factor}
+use Rattle.section.proofs.RoundForms.{one-room, one-factor}
 use Rattle.section_cases.proofs.OneRound.{first-stiffeners}
 use borrow.Author.Needs.{needs}
 use Rattle.section_cases.proofs.trace.first.Statement.{statement}

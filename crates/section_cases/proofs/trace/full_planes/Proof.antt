@@ -1,5 +1,5 @@
 -- `section_cases::trace::full_planes` is safe.
-use Rattle.section.proofs.CoefficientForms.{one-room}
+use Rattle.section.proofs.RoundForms.{one-room}
 use borrow.Author.Needs.{needs}
 use Rattle.section_cases.proofs.trace.full_planes.Statement.{statement}
 use Rattle.section_cases.proofs.trace.full_planes.Tie as tie

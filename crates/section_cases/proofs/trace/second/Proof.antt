@@ -1,5 +1,5 @@
 -- `section_cases::trace::second` is safe.
-use Rattle.section.proofs.CoefficientForms.{factors-most}
+use Rattle.section.proofs.RoundForms.{factors-most}
 use Rattle.section_cases.proofs.OneRound.{second-stiffeners}
 use borrow.Author.Needs.{needs}
 use Rattle.section_cases.proofs.trace.second.Statement.{statement}

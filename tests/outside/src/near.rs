@@ -1,27 +1,37 @@
 //! Sheets near the thresholds of the rules and at the limits of the questions,
 //! with a table of how many lie where.
 
-use reference::generate::{worked, Chance};
+use reference::chance::Chance;
 use reference::limits::{at_limit, limits};
 use reference::sheet::Sheet;
-use reference::thresholds::{search, Near, THRESHOLDS};
+use reference::thresholds::{kept, search, Near, KEPT, THRESHOLDS};
+use reference::working::worked;
 
-/// Prints how many of the sheets lie near each threshold; fewer than so many at
-/// an end and distance that occur are an error.
-pub fn tell_near(sheets: &[Sheet], wanted: u64) -> Result<(), String> {
+/// The kept sheets near every threshold and, where the run is long, twice as many
+/// that are searched for. Fewer than were kept, at an end and distance that occur,
+/// are an error.
+pub fn thresholds(seed: u64, long: bool) -> Result<Vec<Sheet>, String> {
+    let mut sheets = kept();
+    if long {
+        let mut chance = Chance::seeded(seed);
+        let found = |threshold| search(threshold, &mut chance, 2 * KEPT);
+        sheets.extend(THRESHOLDS.iter().flat_map(found));
+    }
+    print_near(&sheets)?;
+    Ok(sheets)
+}
+
+fn print_near(sheets: &[Sheet]) -> Result<(), String> {
     println!(
         "\n{:40} {:>6}  {:23}  {:23}",
         "sheets within two units of", "", "lower end -2 .. 2", "upper end -2 .. 2"
     );
-    let workings: Vec<_> = sheets.iter().map(|sheet| (sheet, worked(sheet))).collect();
+    let workings: Vec<_> = sheets.iter().map(|&s| (s, worked(&s))).collect();
     for threshold in &THRESHOLDS {
-        let mut near = Near::default();
-        for (sheet, working) in &workings {
-            near.count(threshold, sheet, working);
-        }
-        let [lower, upper] = near.cells.map(row);
+        let near = Near::of(threshold, &workings);
+        let [lower, upper] = near.at_distances.map(row);
         println!("{:40} {:6}  {lower}  {upper}", threshold.name, near.sheets);
-        if near.fewest(threshold) < wanted {
+        if near.fewest(threshold) < KEPT {
             return Err(format!("too few sheets: {}\n", threshold.name));
         }
     }
@@ -33,16 +43,7 @@ fn row(counts: [u64; 5]) -> String {
     counts.map(|n| format!("{n:4} ")).concat()
 }
 
-/// More sheets near every threshold.
-pub fn found_near(seed: u64, wanted: u64) -> Vec<Sheet> {
-    let mut chance = Chance::seeded(seed);
-    let found = THRESHOLDS.iter();
-    found
-        .flat_map(|threshold| search(threshold, &mut chance, wanted))
-        .collect()
-}
-
-/// Sheets at every limit of questions 2 to 10, with a table of them.
+/// Sheets at every limit of questions 2 to 10, so many at each distance from it.
 pub fn at_limits(seed: u64, wanted: usize) -> Vec<[u64; 12]> {
     println!(
         "\n{:40} {:>6}  {:23}",
@@ -53,12 +54,8 @@ pub fn at_limits(seed: u64, wanted: usize) -> Vec<[u64; 12]> {
     for limit in limits() {
         let found = at_limit(&limit, &mut chance, wanted);
         let counts = found.each_ref().map(|sheets| sheets.len() as u64);
-        println!(
-            "{:40} {:6}  {}",
-            limit.name(),
-            counts.iter().sum::<u64>(),
-            row(counts)
-        );
+        let (name, sum) = (limit.name(), counts.iter().sum::<u64>());
+        println!("{name:40} {sum:6}  {}", row(counts));
         all.extend(found.concat());
     }
     println!("where 0 stands a number would lie below 0, or be a third form");

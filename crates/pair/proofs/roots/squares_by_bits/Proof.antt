@@ -1,4 +1,4 @@
--- `pair::roots::squares_of` meets its contract. The loop's invariant: each root so far is that of the digits taken in.
+-- `pair::roots::squares_by_bits` meets its contract. The loop's invariant: each root so far is that of the digits taken in.
 use mathlib.Core.Path.{_≡_}
 use mathlib.Core.Bool.{cond}
 use Prim.Native.Nat.{ℕ, _-_, _*_, _/_, _%_, _^_, _≤_, _<_}
@@ -13,8 +13,8 @@ use Rattle.pair.proofs.Tests.{by-test}
 use Rattle.pair.proofs.Digits.{nothing-above, next-digit, all-digits}
 use Rattle.pair.proofs.Extraction.{square-lt, square-restated, square-taken}
 use borrow.Author.Needs.{needs}
-use Rattle.pair.proofs.roots.squares_of.Statement.{statement}
-use Rattle.pair.proofs.roots.squares_of.Tie as tie
+use Rattle.pair.proofs.roots.squares_by_bits.Statement.{statement}
+use Rattle.pair.proofs.roots.squares_by_bits.Tie as tie
 
 abbrev Inv-loop : tie.InvT-loop
 Inv-loop m n one₀ two₀ most at₀ one two at =
@@ -107,8 +107,8 @@ returns c =
       square-restated (all-digits (a .n) (loop .at) (omega arith)) (loop .inv .1),
     )
 
-pub squares-of-spec : {M : Type 1} → statement M
-squares-of-spec =
+pub squares-by-bits-spec : {M : Type 1} → statement M
+squares-by-bits-spec =
     tie.close
     (tie.spec
     Inv-loop
