@@ -5,7 +5,7 @@ use mathlib.Core.List.{List, [], _∷_}
 use Rattle.certificate.specs.declared.Refusal.{Refusal}
 use Rattle.certificate.specs.declared.Found.{Found}
 use Rattle.certificate.specs.declared.Found.the-variants.{Refused, Met}
-use Rattle.certificate.specs.Claims.{Claim, Holds, test}
+use Rattle.section.specs.Claims.{Claim, Holds, test}
 use Rattle.certificate.specs.Questions.{Asked, _else_, First, firstOf, firstIn}
 use Rattle.certificate.proofs.Tests.{holds-test, fails-test}
 

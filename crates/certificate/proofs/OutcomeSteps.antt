@@ -12,6 +12,7 @@ use lib.Seq.{take-all, drop-cons}
 use Rattle.pair.specs.declared.signed.Integer.{Integer}
 use Rattle.section.specs.declared.Sheet.{Sheet}
 use Rattle.section.specs.declared.Figures.{Figures}
+use Rattle.section.specs.Claims.{_is_, test}
 use Rattle.section.specs.Figures.{Printed, figures}
 use Rattle.section.specs.Forms.{printedOf}
 use Rattle.text.specs.Keys.{sheetLines, certificateLines}
@@ -28,7 +29,6 @@ use Rattle.certificate.specs.declared.Found.{Found}
 use Rattle.certificate.specs.declared.Found.the-variants.{Refused, Met}
 use Rattle.certificate.specs.declared.Verdict.{Verdict}
 use Rattle.certificate.specs.declared.Verdict.the-variants.{Refused as Turned, Accepted}
-use Rattle.certificate.specs.Claims.{_is_, test}
 use Rattle.certificate.specs.Refusals.{answer, told}
 use Rattle.certificate.specs.Questions.{_else_, questions, firstOf, firstIn, Judged, accepted, verdict, judgedOf}
 use Rattle.certificate.specs.Questions.{refused as turned}

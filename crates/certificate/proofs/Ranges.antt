@@ -6,10 +6,10 @@ use mathlib.Core.Bool.{true, false}
 use native.Mathlib.Numerals.{add-one}
 use lib.ListN.{length, getD, drop, drop-of-length-le}
 use lib.Seq.{drop-cons}
-use Rattle.certificate.specs.declared.Span.{Span}
+use Rattle.section.specs.declared.Span.{Span}
+use Rattle.section.specs.Claims.{test}
 use Rattle.certificate.specs.declared.Refusal.the-variants.{Range}
 use Rattle.certificate.specs.declared.Found.the-variants.{Refused, Met}
-use Rattle.certificate.specs.Claims.{test}
 use Rattle.certificate.specs.Questions.{_else_, inside, ranged, firstOf}
 
 module _ (line : ℕ) (ss : List Span) (vs : List ℕ) (i : ℕ) (d : Span) (a : i < length ss) (b : i < length vs) where

@@ -7,10 +7,10 @@ use native.Mathlib.Omega.{arith}
 use lib.IntN.{ℤ}
 use lib.ListN.{length, drop, length-drop}
 use Rattle.section.specs.declared.Sheet.{Sheet}
+use Rattle.section.specs.declared.Span.{Span}
 use Rattle.section.specs.Sheets.{Question2, Question3, Question4, Question5, Question6, Question7, Question8, Question9, Question10}
 use Rattle.section.specs.Figures.{figures, Question11}
 use Rattle.text.specs.Keys.{sheetLines, certificateLines}
-use Rattle.certificate.specs.declared.Span.{Span}
 use Rattle.certificate.specs.Questions.{Asked, ranges, values, ranged, question2, question3, question4, question5, question6, question7, question8, question9, question10, question11, onNumbers, questions}
 use Rattle.certificate.specs.Reasons.{All, facts-on-numbers, facts}
 use Rattle.certificate.specs.Certificates.{figureValues}

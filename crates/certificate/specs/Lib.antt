@@ -1,5 +1,4 @@
 pub mod Refusals
-pub mod Claims
 pub mod Questions
 pub mod Reasons
 pub mod Certificates

@@ -4,6 +4,7 @@ use mathlib.Core.List.{List, [], _∷_, _++_}
 use lib.ListN.{length, drop}
 use lib.IntN.{ℤ}
 use Rattle.section.specs.declared.Sheet.{Sheet}
+use Rattle.section.specs.Claims.{_≤?_, _is_}
 use Rattle.section.specs.Figures.{figures}
 use Rattle.text.specs.Keys.{sheetLines, certificateLines}
 use Rattle.text.specs.Lines.{over}
@@ -13,7 +14,6 @@ use Rattle.certificate.specs.declared.Refusal.{Refusal}
 use Rattle.certificate.specs.declared.Refusal.the-variants.{Spelling, Room, Figure}
 use Rattle.certificate.specs.declared.Found.{Found}
 use Rattle.certificate.specs.declared.Found.the-variants.{Refused, Met}
-use Rattle.certificate.specs.Claims.{_≤?_, _is_}
 use Rattle.certificate.specs.Refusals.{answer, told}
 use Rattle.certificate.specs.Questions.{Asked, _else_, questions, firstOf, firstIn}
 use Rattle.certificate.specs.Certificates.{figureValues, certificateOf, sheetShown}

@@ -1,21 +1,21 @@
 -- The questions on twelve numbers, in order, and what they give. (Document 01, "The questions, in this order".)
-use Prim.Native.Nat.{ℕ, _+_, _-_, _*_}
+use Prim.Native.Nat.{ℕ, _+_, _-_}
 use mathlib.Core.Bool.{cond}
 use mathlib.Core.List.{List, [], _∷_, _++_}
 use mathlib.Core.Path.{_≡_}
 use lib.ListN.{drop}
 use Rattle.section.specs.declared.Sheet.{Sheet}
-use Rattle.section.specs.Working.{S, worked}
-use Rattle.section.specs.Figures.{Printed, figures}
+use Rattle.section.specs.declared.Span.{Span}
+use Rattle.section.specs.Claims.{Claim, _≤?_, _and_, _or_, test}
+use Rattle.section.specs.Sheets.{span-of, core-within, width, lip-length, depth, lip-long, lip-short, radius-core, radius-flange, mid-line-lip, form-z, lips-apart}
+use Rattle.section.specs.Figures.{Printed, figures, allowance}
 use Rattle.section.specs.Forms.{printedOf}
-use Rattle.certificate.specs.declared.Span.{Span}
 use Rattle.certificate.specs.declared.Refusal.{Refusal}
 use Rattle.certificate.specs.declared.Refusal.the-variants.{Range, Thickness, FlangeWidth, LipLength, Depth, LipRatio, Radius, MidLineRatio, Form, Allowance}
 use Rattle.certificate.specs.declared.Found.{Found}
 use Rattle.certificate.specs.declared.Found.the-variants.{Refused, Met}
 use Rattle.certificate.specs.declared.Verdict.{Verdict}
 use Rattle.certificate.specs.declared.Verdict.the-variants.{Refused as Turned, Accepted}
-use Rattle.certificate.specs.Claims.{Claim, _≤?_, _≡?_, _and_, _or_, test}
 
 -- a sheet of twelve numbers, in the order of the lines
 abbrev pub sheetOf : ℕ → ℕ → ℕ → ℕ → ℕ → ℕ → ℕ → ℕ → ℕ → ℕ → ℕ → ℕ → Sheet
@@ -40,15 +40,11 @@ infix 30 _else_
 pub data Asked : Type 0 where
   _else_ : Claim → Refusal → Asked
 
-infix 80 _to_
-abbrev _to_ : ℕ → ℕ → Span
-least to most = record { least = least; most = most }
-
 -- the ranges, and the values, in the order of the lines
 unfoldable pub ranges : List Span
 ranges =
-    0 to 1 ∷ 4000 to 50000 ∷ 2000 to 20000 ∷ 2000 to 20000 ∷ 500 to 12000 ∷ 0 to 3000
-    ∷ 50 to 600 ∷ 45 to 600 ∷ 200 to 700 ∷ 1000 to 1500 ∷ 0 to 8 ∷ 0 to 1000 ∷ []
+    span-of .form ∷ span-of .h ∷ span-of .b1 ∷ span-of .b2 ∷ span-of .c ∷ span-of .r
+    ∷ span-of .tnom ∷ span-of .t ∷ span-of .fyb ∷ span-of .gm0 ∷ span-of .rounds ∷ span-of .allow ∷ []
 
 unfoldable pub values : Sheet → List ℕ
 values q =
@@ -63,15 +59,9 @@ ranged line [] vs = []
 ranged line (s ∷ ss) [] = []
 ranged line (s ∷ ss) (v ∷ vs) = (inside s v else Range line) ∷ ranged (line + 1) ss vs
 
--- a flange's width, and its lip, on outer lengths and on the mid-lines (twice, since cp = c − tnom/2 may have half hundredths)
-abbrev pub width : ℕ → ℕ → Claim
-width b t = b ≤? 60 * t
-
+-- a lip beside its flange, on outer lengths
 abbrev pub lip : ℕ → ℕ → Claim
-lip b c = b ≤? 5 * c and 5 * c ≤? 3 * b
-
-abbrev pub mid-line-lip : ℕ → ℕ → ℕ → Claim
-mid-line-lip b c tnom = 5 * (2 * c - tnom) ≤? 6 * (b - tnom)
+lip b c = lip-long b c and lip-short b c
 
 -- Is every value in range?
 unfoldable pub question2 : Sheet → List Asked
@@ -79,7 +69,7 @@ question2 q = ranged 1 ranges (values q)
 
 -- t ≤ tnom?
 unfoldable pub question3 : Sheet → List Asked
-question3 q = (q .t .0 ≤? q .tnom .0 else Thickness) ∷ []
+question3 q = (core-within (q .t .0) (q .tnom .0) else Thickness) ∷ []
 
 -- b ≤ 60t, flange 1 then 2?
 unfoldable pub question4 : Sheet → List Asked
@@ -87,11 +77,11 @@ question4 q = (width (q .b1) (q .t .0) else FlangeWidth 3) ∷ (width (q .b2) (q
 
 -- c ≤ 50t?
 unfoldable pub question5 : Sheet → List Asked
-question5 q = (q .c ≤? 50 * q .t .0 else LipLength) ∷ []
+question5 q = (lip-length (q .c) (q .t .0) else LipLength) ∷ []
 
 -- h ≤ 500t?
 unfoldable pub question6 : Sheet → List Asked
-question6 q = (q .h ≤? 500 * q .t .0 else Depth) ∷ []
+question6 q = (depth (q .h) (q .t .0) else Depth) ∷ []
 
 -- b ≤ 5c and 5c ≤ 3b, flange 1 then 2?
 unfoldable pub question7 : Sheet → List Asked
@@ -100,7 +90,7 @@ question7 q = (lip (q .b1) (q .c) else LipRatio 3) ∷ (lip (q .b2) (q .c) else 
 -- r ≤ 5t and 10r ≤ bp1 and 10r ≤ bp2?
 unfoldable pub question8 : Sheet → List Asked
 question8 q =
-    (q .r ≤? 5 * q .t .0 and 10 * q .r ≤? q .b1 - q .tnom .0 and 10 * q .r ≤? q .b2 - q .tnom .0 else Radius) ∷ []
+    (radius-core (q .r) (q .t .0) and radius-flange (q .r) (q .b1) (q .tnom .0) and radius-flange (q .r) (q .b2) (q .tnom .0) else Radius) ∷ []
 
 -- 5cp ≤ 3bp, flange 1 then 2?
 unfoldable pub question9 : Sheet → List Asked
@@ -109,11 +99,11 @@ question9 q =
 
 -- Form Z, or 2c ≤ h?
 unfoldable pub question10 : Sheet → List Asked
-question10 q = (q .form ≡? 1 or 2 * q .c ≤? q .h else Form) ∷ []
+question10 q = (form-z (q .form) or lips-apart (q .c) (q .h) else Form) ∷ []
 
 -- Is the area's upper end at most area + allow, as worked at our scale?
 unfoldable pub question11 : Sheet → List Asked
-question11 q = ((worked 1 q) .area .hi * 100 ≤? ((figures 1 q) .area + q .allow) * S 1 else Allowance) ∷ []
+question11 q = (allowance 1 q else Allowance) ∷ []
 
 -- the questions that need no working, and all of them up to the eleventh; the first is the second of the paper
 unfoldable pub onNumbers : Sheet → List (List Asked)

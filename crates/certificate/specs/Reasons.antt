@@ -5,10 +5,10 @@ use mathlib.Core.Path.{_≡_}
 use mathlib.Core.Logic.{_⊎_}
 use lib.ListN.{take, getD}
 use Rattle.section.specs.declared.Sheet.{Sheet}
+use Rattle.section.specs.Claims.{Holds}
 use Rattle.section.specs.Sheets.{Question2, Question3, Question4, Question5, Question6, Question7, Question8, Question9, Question10}
 use Rattle.section.specs.Figures.{Question11}
 use Rattle.certificate.specs.declared.Refusal.{Refusal}
-use Rattle.certificate.specs.Claims.{Holds}
 use Rattle.certificate.specs.Refusals.{told}
 use Rattle.certificate.specs.Questions.{Asked, _else_}
 

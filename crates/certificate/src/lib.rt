@@ -62,12 +62,6 @@ pub struct Answer {
     pub length: u64,
 }
 
-// The least and the most that a value may be.
-pub struct Span {
-    pub least: u64,
-    pub most: u64,
-}
-
 // Twelve plain numbers, in the order of the lines, as a sheet.
 pub fn sheet_of(
     form: u64,

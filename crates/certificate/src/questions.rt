@@ -2,15 +2,15 @@
 // (Document 01, "The questions, in this order".)
 use crate::Found;
 use crate::Refusal;
-use crate::Span;
 use crate::Verdict;
 use section::Sheet;
+use section::Span;
 use section::sections;
 ghost use mathlib.Core.Path.{_≡_};
 ghost use Prim.Native.Nat.{_≤_};
+ghost use Rattle.section.specs.Claims.{test};
 ghost use Rattle.section.specs.Sheets.{Question2, Sound};
 ghost use Rattle.section.specs.Figures.{figures};
-ghost use Rattle.certificate.specs.Claims.{test};
 ghost use Rattle.certificate.specs.Questions.{inside, lip, ranges, ranged, question11, from, firstOf, First, firstRefusal, judged, judgedOf, verdict};
 
 // The ranges of document 01, in the order of the lines.

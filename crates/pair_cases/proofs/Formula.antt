@@ -1,11 +1,11 @@
 -- Formulas of document 01 at fineness n, at a scale of n × 1,000,000: at fineness m × n they lie inside. Shown from pair's laws alone,
 -- by search over its ruleset: no definition of pair is opened.
 use Prim.Native.Nat.{ℕ, _*_, _<_}
-use mathlib.Core.Path.{_≡_, refl}
+use mathlib.Core.Path.{_≡_}
 use mathlib.Core.Bool.{true}
 use native.Mathlib.Omega.{arith}
 use lib.Dec.{lit<}
-use Rattle.pair.specs.Pairs.{ratio, plus, minus, times, over, root}
+use Rattle.pair.specs.Pairs.{ratio, plus, times, over, root}
 use Rattle.pair.specs.SignedPairs.{SignedPair, difference, signed, signedTimes}
 use Rattle.pair.specs.Fits.{exactRatio}
 use Rattle.pair.specs.Enclosure.{Finer, Inside, SignedInside, Positive}

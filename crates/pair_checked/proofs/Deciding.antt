@@ -1,7 +1,7 @@
 -- Each test that the program makes is the one that a contract of crate pair asks for.
 use mathlib.Core.Path.{_≡_, refl, sym, ap, ap₂, _∙_}
 use mathlib.Core.Bool.{Bool, true, false, _&&_}
-use Prim.Native.Nat.{ℕ, _+_, _-_, _*_, _/_, _%_, _^_, _≤_, _<_, max}
+use Prim.Native.Nat.{ℕ, _+_, _-_, _*_, _/_, _%_, _^_, _<_, max}
 use native.Mathlib.Nat.{lt-of-le-of-lt, le-of-eq, mod-lt, mul-pos, div-add-mod', div-lt-iff-lt-mul}
 use native.Mathlib.Omega.{arith}
 use lib.Dec.{leb, ltb, eqb}
@@ -11,7 +11,7 @@ use Rattle.pair.specs.Remainders.{Split}
 use Rattle.pair.specs.Pairs.{times, over, ratio, exact}
 use Rattle.pair.specs.Integers.{lebℤ}
 use Rattle.pair.specs.SignedPairs.{integer, meaning, reach}
-use Rattle.pair.specs.Fits.{word, words, ordered, timesFits, overFits, exactRatio, timesRatioFits, overRatioFits, rootFits, cubeRootFits, signedOrdered, signedPlusFits, signedTimesFits, signedOverFits}
+use Rattle.pair.specs.Fits.{word, words, ordered, timesFits, overFits, exactRatio, timesRatioFits, overRatioFits, rootFits, cubeRootFits, signedOrdered, signedTimesFits, signedOverFits}
 use Rattle.pair.specs.declared.Pair.{Pair}
 use Rattle.pair.specs.declared.signed.Signed.{Signed}
 use Rattle.pair.proofs.Tests.{and-left, and-right, and-both}

@@ -14,7 +14,7 @@ use Rattle.pair.proofs.Bounds.{box-wider}
 use Rattle.pair.proofs.Nesting.{inside}
 use Rattle.section.specs.Working.{S, constant, units, k, k-at, k-past}
 use Rattle.section.proofs.Ends.{scale-positive, finer, own-fine, constant-exact, constant-inside, units-finer}
-use Rattle.section.proofs.Rising.{Rises, same-rises, plus-more, rising}
+use Rattle.section.proofs.Rising.{Rises, same-rises, plus-more}
 use Rattle.section.proofs.BoxRooms.{constant-box}
 use Rattle.section.proofs.CoefficientForms.{past-box, past-rises}
 
@@ -36,35 +36,35 @@ past-least n⁺ o = search (plus-more, ratio-ordered, minus-ordered, times-order
 module _ (n : ℕ) (n⁺ : 0 < n) where
   pub k-rises : (q q′ : ℕ) → q ≤ q′ → Rises (k-at n q) (k-at n q′)
   unfolding k-at
-  k-rises q q′ h = go (leb q (units n 35 100)) (leb q′ (units n 35 100)) refl refl
+  k-rises q q′ h = by-outcome (leb q (units n 35 100)) (leb q′ (units n 35 100)) refl refl
     where
-      go : (b c : Bool) → leb q (units n 35 100) ≡ b → leb q′ (units n 35 100) ≡ c
+      by-outcome : (b c : Bool) → leb q (units n 35 100) ≡ b → leb q′ (units n 35 100) ≡ c
           → Rises (cond b (constant n 1 2) (k-past n (q to q))) (cond c (constant n 1 2) (k-past n (q′ to q′)))
-      go true true e f = same-rises (ratio-ordered _ _ _)
-      go true false e f = past-least n⁺ (at-ordered q′)
-      go false true e f = absurd (omega (arith, leb-false q (units n 35 100) e, leb-true q′ (units n 35 100) f))
-      go false false e f = past-rises n⁺ (record { low = h; high = h; first = at-ordered q; second = at-ordered q′ })
+      by-outcome true true e f = same-rises (ratio-ordered _ _ _)
+      by-outcome true false e f = past-least n⁺ (at-ordered q′)
+      by-outcome false true e f = absurd (omega (arith, leb-false q (units n 35 100) e, leb-true q′ (units n 35 100) f))
+      by-outcome false false e f = past-rises n⁺ (record { low = h; high = h; first = at-ordered q; second = at-ordered q′ })
 
   k-least : (q : ℕ) → Rises (constant n 1 2) (k-at n q)
   unfolding k-at
-  k-least q = go (leb q (units n 35 100))
+  k-least q = by-outcome (leb q (units n 35 100))
     where
-      go : (b : Bool) → Rises (constant n 1 2) (cond b (constant n 1 2) (k-past n (q to q)))
-      go true = same-rises (ratio-ordered _ _ _)
-      go false = past-least n⁺ (at-ordered q)
+      by-outcome : (b : Bool) → Rises (constant n 1 2) (cond b (constant n 1 2) (k-past n (q to q)))
+      by-outcome true = same-rises (ratio-ordered _ _ _)
+      by-outcome false = past-least n⁺ (at-ordered q)
 
   -- the same value at a finer scale
   module _ (m : ℕ) (m⁺ : 0 < m) where
     at-inside : (q : ℕ) → Inside m (k-at (m * n) (q * m)) (k-at n q)
     unfolding k-at
-    at-inside q = go (leb q (units n 35 100)) (leb (q * m) (units (m * n) 35 100)) refl refl
+    at-inside q = by-outcome (leb q (units n 35 100)) (leb (q * m) (units (m * n) 35 100)) refl refl
       where
-        go : (b c : Bool) → leb q (units n 35 100) ≡ b → leb (q * m) (units (m * n) 35 100) ≡ c
+        by-outcome : (b c : Bool) → leb q (units n 35 100) ≡ b → leb (q * m) (units (m * n) 35 100) ≡ c
             → Inside m (cond c (constant (m * n) 1 2) (k-past (m * n) (q * m to q * m))) (cond b (constant n 1 2) (k-past n (q to q)))
-        go true true e f = constant-inside n⁺ m⁺ 1 2 (lit< tt) refl
-        go true false e f = absurd (omega (arith, units-finer m n 35 100 refl, mul-le-mul-right m (leb-true q (units n 35 100) e), leb-false (q * m) (units (m * n) 35 100) f))
-        go false true e f = absurd (omega (arith, units-finer m n 35 100 refl, mul-le-mul-right m (leb-false q (units n 35 100) e), leb-true (q * m) (units (m * n) 35 100) f))
-        go false false e f = past-inside n⁺ m⁺ (record { low = le-refl _; mid = le-refl _; high = le-refl _ })
+        by-outcome true true e f = constant-inside n⁺ m⁺ 1 2 (lit< tt) refl
+        by-outcome true false e f = absurd (omega (arith, units-finer m n 35 100 refl, mul-le-mul-right m (leb-true q (units n 35 100) e), leb-false (q * m) (units (m * n) 35 100) f))
+        by-outcome false true e f = absurd (omega (arith, units-finer m n 35 100 refl, mul-le-mul-right m (leb-false q (units n 35 100) e), leb-true (q * m) (units (m * n) 35 100) f))
+        by-outcome false false e f = past-inside n⁺ m⁺ (record { low = le-refl _; mid = le-refl _; high = le-refl _ })
 
 -- end by end: through the coarser end of q at the finer scale
 pub k-inside : {n m : ℕ} {Q q : Pair} → 0 < n → 0 < m → Inside m Q q → Inside m (k (m * n) Q) (k n q)

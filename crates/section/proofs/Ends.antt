@@ -59,11 +59,11 @@ pub min-down : (s q Q m : ℕ) → q * m ≤ Q → min s q * m ≤ min (m * s) Q
 min-down s q Q m h = omega (arith, mul-le-mul-right m (min-le-left s q), mul-le-mul-right m (min-le-right s q))
 
 pub min-up : (s q Q m : ℕ) → Q ≤ q * m → min (m * s) Q ≤ min s q * m
-min-up s q Q m h = go (decLe s q)
+min-up s q Q m h = by-outcome (decLe s q)
   where
-    go : Dec (s ≤ q) → min (m * s) Q ≤ min s q * m
-    go (yes p) = let e : min s q ≡ s = omega arith in rw e (omega arith)
-    go (no f) = let e : min s q ≡ q = omega arith in rw e (omega arith)
+    by-outcome : Dec (s ≤ q) → min (m * s) Q ≤ min s q * m
+    by-outcome (yes p) = let e : min s q ≡ s = omega arith in rw e (omega arith)
+    by-outcome (no f) = let e : min s q ≡ q = omega arith in rw e (omega arith)
 
 pub min-left : (x y m : ℕ) → min x y * m ≤ x * m
 min-left x y m = mul-le-mul-right m (min-le-left x y)

@@ -32,19 +32,19 @@ line n u = 1470 * S n - 723 * u
 -- up to 0.65 the line is above 1, so the test changes nothing
 line-down : (n u : ℕ) → χ-before-down n u ≡ min (S n) (line n u / 1000)
 unfolding χ-before-down
-line-down n u = go (leb u (units n 65 100)) refl
+line-down n u = by-outcome (leb u (units n 65 100)) refl
   where
-    go : (b : Bool) → leb u (units n 65 100) ≡ b → cond b (S n) (min (S n) (line n u / 1000)) ≡ min (S n) (line n u / 1000)
-    go true e = omega (arith, leb-true u (units n 65 100) e)
-    go false e = refl
+    by-outcome : (b : Bool) → leb u (units n 65 100) ≡ b → cond b (S n) (min (S n) (line n u / 1000)) ≡ min (S n) (line n u / 1000)
+    by-outcome true e = omega (arith, leb-true u (units n 65 100) e)
+    by-outcome false e = refl
 
 line-up : (n u : ℕ) → χ-before-up n u ≡ min (S n) (ceilDiv (line n u) 1000)
 unfolding χ-before-up
-line-up n u = go (leb u (units n 65 100)) refl
+line-up n u = by-outcome (leb u (units n 65 100)) refl
   where
-    go : (b : Bool) → leb u (units n 65 100) ≡ b → cond b (S n) (min (S n) (ceilDiv (line n u) 1000)) ≡ min (S n) (ceilDiv (line n u) 1000)
-    go true e = omega (arith, leb-true u (units n 65 100) e, le-ceil {n = line n u} {d = 1000} (lit< tt))
-    go false e = refl
+    by-outcome : (b : Bool) → leb u (units n 65 100) ≡ b → cond b (S n) (min (S n) (ceilDiv (line n u) 1000)) ≡ min (S n) (ceilDiv (line n u) 1000)
+    by-outcome true e = omega (arith, leb-true u (units n 65 100) e, le-ceil {n = line n u} {d = 1000} (lit< tt))
+    by-outcome false e = refl
 
 module _ (n : ℕ) (n⁺ : 0 < n) (m : ℕ) (m⁺ : 0 < m) where
   mn⁺ : 0 < m * n
@@ -108,9 +108,9 @@ module _ (n : ℕ) (n⁺ : 0 < n) (m : ℕ) (m⁺ : 0 < m) where
 
   χ-ends : (a b A B : ℕ) → Inside m (A to B) (a to b) → Inside m (χ (m * n) (A to B)) (χ n (a to b))
   unfolding χ
-  χ-ends a b A B i = go (ltb b (edge n)) (ltb a (edge n)) (ltb B (edge (m * n))) (ltb A (edge (m * n))) refl refl refl refl
+  χ-ends a b A B i = by-outcome (ltb b (edge n)) (ltb a (edge n)) (ltb B (edge (m * n))) (ltb A (edge (m * n))) refl refl refl refl
     where
-      go : (p q P Q : Bool) → ltb b (edge n) ≡ p → ltb a (edge n) ≡ q → ltb B (edge (m * n)) ≡ P → ltb A (edge (m * n)) ≡ Q
+      by-outcome : (p q P Q : Bool) → ltb b (edge n) ≡ p → ltb a (edge n) ≡ q → ltb B (edge (m * n)) ≡ P → ltb A (edge (m * n)) ≡ Q
           → Inside m
           (cond P (χ-before-down (m * n) B to χ-before-up (m * n) A)
           (cond Q (min (falls-to (m * n)) (χ-from-down (m * n) B) to max (jumps-to (m * n)) (χ-before-up (m * n) A))
@@ -118,15 +118,15 @@ module _ (n : ℕ) (n⁺ : 0 < n) (m : ℕ) (m⁺ : 0 < m) where
           (cond p (χ-before-down n b to χ-before-up n a)
           (cond q (min (falls-to n) (χ-from-down n b) to max (jumps-to n) (χ-before-up n a))
           (χ-from-down n b to χ-from-up n a)))
-      go true q true Q e f g h = record { low = before-low b B (i .high); mid = before-mid A B (i .mid); high = before-high a A (i .low) }
-      go true q false Q e f g h = absurd (omega (arith, units-finer m n 138 100 refl, mul-le-mul-right m (ltb-true b (edge n) e), ltb-false B (edge (m * n)) g, i .high))
-      go false true true Q e f g h =
+      by-outcome true q true Q e f g h = record { low = before-low b B (i .high); mid = before-mid A B (i .mid); high = before-high a A (i .low) }
+      by-outcome true q false Q e f g h = absurd (omega (arith, units-finer m n 138 100 refl, mul-le-mul-right m (ltb-true b (edge n) e), ltb-false B (edge (m * n)) g, i .high))
+      by-outcome false true true Q e f g h =
           record {
             low = le-trans (min-left (falls-to n) (χ-from-down n b) m) (before-least B (ltb-true B (edge (m * n)) g));
             mid = before-mid A B (i .mid);
             high = le-trans (before-high a A (i .low)) (max-right (jumps-to n) (χ-before-up n a) m);
           }
-      go false true false true e f g h =
+      by-outcome false true false true e f g h =
           record {
             low =
                 omega (
@@ -139,16 +139,16 @@ module _ (n : ℕ) (n⁺ : 0 < n) (m : ℕ) (m⁺ : 0 < m) where
             mid = omega (arith, jump-mid);
             high = omega (arith, jump-up, before-high a A (i .low), max-left (jumps-to n) (χ-before-up n a) m, max-right (jumps-to n) (χ-before-up n a) m);
           }
-      go false true false false e f g h =
+      by-outcome false true false false e f g h =
           let k : edge (m * n) ≤ A = ltb-false A (edge (m * n)) h in
           record {
             low = le-trans (min-right (falls-to n) (χ-from-down n b) m) (from-low b B (le-trans (past k) (i .mid)) (i .high));
             mid = from-mid A B (past k) (i .mid);
             high = le-trans (jump-high A k) (max-left (jumps-to n) (χ-before-up n a) m);
           }
-      go false false true Q e f g h = absurd (omega (arith, units-finer m n 138 100 refl, mul-le-mul-right m (ltb-false a (edge n) f), ltb-true B (edge (m * n)) g, i .low, i .mid))
-      go false false false true e f g h = absurd (omega (arith, units-finer m n 138 100 refl, mul-le-mul-right m (ltb-false a (edge n) f), ltb-true A (edge (m * n)) h, i .low))
-      go false false false false e f g h =
+      by-outcome false false true Q e f g h = absurd (omega (arith, units-finer m n 138 100 refl, mul-le-mul-right m (ltb-false a (edge n) f), ltb-true B (edge (m * n)) g, i .low, i .mid))
+      by-outcome false false false true e f g h = absurd (omega (arith, units-finer m n 138 100 refl, mul-le-mul-right m (ltb-false a (edge n) f), ltb-true A (edge (m * n)) h, i .low))
+      by-outcome false false false false e f g h =
           let k : edge (m * n) ≤ A = ltb-false A (edge (m * n)) h in
           record {
             low = from-low b B (le-trans (past k) (i .mid)) (i .high);
@@ -172,15 +172,15 @@ from-most n u n⁺ h =
 
 pub χ-most : (n : ℕ) (u : Pair) → 0 < n → AtMost (n * 1000000) (χ n u)
 unfolding χ
-χ-most n u n⁺ = record { high = go (ltb (u .hi) (edge n)) (ltb (u .lo) (edge n)) refl }
+χ-most n u n⁺ = record { high = by-outcome (ltb (u .hi) (edge n)) (ltb (u .lo) (edge n)) refl }
   where
-    go : (p q : Bool) → ltb (u .lo) (edge n) ≡ q
+    by-outcome : (p q : Bool) → ltb (u .lo) (edge n) ≡ q
         → (cond p (χ-before-down n (u .hi) to χ-before-up n (u .lo))
         (cond q (min (falls-to n) (χ-from-down n (u .hi)) to max (jumps-to n) (χ-before-up n (u .lo)))
         (χ-from-down n (u .hi) to χ-from-up n (u .lo)))) .hi ≤ S n
-    go true q e = before-most n (u .lo)
-    go false true e = max-le (ceil-le (lit< tt) (omega arith)) (before-most n (u .lo))
-    go false false e = from-most n (u .lo) n⁺ (ltb-false (u .lo) (edge n) e)
+    by-outcome true q e = before-most n (u .lo)
+    by-outcome false true e = max-le (ceil-le (lit< tt) (omega arith)) (before-most n (u .lo))
+    by-outcome false false e = from-most n (u .lo) n⁺ (ltb-false (u .lo) (edge n) e)
 
 -- a box, in millionths
 pub χ-box : {n a b : ℕ} {U : Pair} → 0 < n → Inside n U (a to b) → Inside n (χ n U) (0 to 1000000)

@@ -55,39 +55,39 @@ module _ (limit less : ℕ) (limit⁺ : 0 < limit) (half : 2 * less ≤ limit) (
 
   down-low : (b B : ℕ) → B ≤ b * m → ρ-down n limit less b * m ≤ ρ-down (m * n) (limit * m) (less * m) B
   unfolding ρ-down
-  down-low b B k = go (leb b limit) (leb B (limit * m)) refl refl
+  down-low b B k = by-outcome (leb b limit) (leb B (limit * m)) refl refl
     where
-      go : (p q : Bool) → leb b limit ≡ p → leb B (limit * m) ≡ q
+      by-outcome : (p q : Bool) → leb b limit ≡ p → leb B (limit * m) ≡ q
           → cond p (S n) (min (S n) ((b - less) * (S n * S n) / (b * b))) * m
           ≤ cond q (S (m * n)) (min (S (m * n)) ((B - less * m) * (S (m * n) * S (m * n)) / (B * B)))
-      go true true e f = omega arith
-      go true false e f = absurd (omega (arith, leb-false B (limit * m) f, mul-le-mul-right m (leb-true b limit e)))
-      go false true e f = omega (arith, mul-le-mul-right m (min-le-left (S n) ((b - less) * (S n * S n) / (b * b))))
-      go false false e f = rw (mul-assoc m n 1000000) (min-down (S n) _ _ m (past-down (S n) b B (leb-false B (limit * m) f) k))
+      by-outcome true true e f = omega arith
+      by-outcome true false e f = absurd (omega (arith, leb-false B (limit * m) f, mul-le-mul-right m (leb-true b limit e)))
+      by-outcome false true e f = omega (arith, mul-le-mul-right m (min-le-left (S n) ((b - less) * (S n * S n) / (b * b))))
+      by-outcome false false e f = rw (mul-assoc m n 1000000) (min-down (S n) _ _ m (past-down (S n) b B (leb-false B (limit * m) f) k))
 
   up-high : (a A : ℕ) → a * m ≤ A → ρ-up (m * n) (limit * m) (less * m) A ≤ ρ-up n limit less a * m
   unfolding ρ-up
-  up-high a A k = go (leb a limit) (leb A (limit * m)) refl refl
+  up-high a A k = by-outcome (leb a limit) (leb A (limit * m)) refl refl
     where
-      go : (p q : Bool) → leb a limit ≡ p → leb A (limit * m) ≡ q
+      by-outcome : (p q : Bool) → leb a limit ≡ p → leb A (limit * m) ≡ q
           → cond q (S (m * n)) (min (S (m * n)) (ceilDiv ((A - less * m) * (S (m * n) * S (m * n))) (A * A)))
           ≤ cond p (S n) (min (S n) (ceilDiv ((a - less) * (S n * S n)) (a * a))) * m
-      go true true e f = omega arith
-      go true false e f = omega arith
-      go false true e f = absurd (omega (arith, leb-true A (limit * m) f, mul-le-mul-right m (leb-false a limit e)))
-      go false false e f = rw (mul-assoc m n 1000000) (min-up (S n) _ _ m (past-up (S n) a A (leb-false a limit e) k))
+      by-outcome true true e f = omega arith
+      by-outcome true false e f = omega arith
+      by-outcome false true e f = absurd (omega (arith, leb-true A (limit * m) f, mul-le-mul-right m (leb-false a limit e)))
+      by-outcome false false e f = rw (mul-assoc m n 1000000) (min-up (S n) _ _ m (past-up (S n) a A (leb-false a limit e) k))
 
   ends-mid : (A B : ℕ) → A ≤ B → ρ-down (m * n) (limit * m) (less * m) B ≤ ρ-up (m * n) (limit * m) (less * m) A
   unfolding ρ-down ρ-up
-  ends-mid A B k = go (leb A (limit * m)) (leb B (limit * m)) refl refl
+  ends-mid A B k = by-outcome (leb A (limit * m)) (leb B (limit * m)) refl refl
     where
-      go : (p q : Bool) → leb A (limit * m) ≡ p → leb B (limit * m) ≡ q
+      by-outcome : (p q : Bool) → leb A (limit * m) ≡ p → leb B (limit * m) ≡ q
           → cond q (S (m * n)) (min (S (m * n)) ((B - less * m) * (S (m * n) * S (m * n)) / (B * B)))
           ≤ cond p (S (m * n)) (min (S (m * n)) (ceilDiv ((A - less * m) * (S (m * n) * S (m * n))) (A * A)))
-      go true true e f = omega arith
-      go true false e f = omega arith
-      go false true e f = absurd (omega (arith, leb-false A (limit * m) e, leb-true B (limit * m) f))
-      go false false e f = omega (arith, past-mid (S (m * n)) A B (leb-false A (limit * m) e) k)
+      by-outcome true true e f = omega arith
+      by-outcome true false e f = omega arith
+      by-outcome false true e f = absurd (omega (arith, leb-false A (limit * m) e, leb-true B (limit * m) f))
+      by-outcome false false e f = omega (arith, past-mid (S (m * n)) A B (leb-false A (limit * m) e) k)
 
   pub ρ-inside : {U u : Pair} → Inside m U u → Inside m (ρ (m * n) (limit * m) (less * m) U) (ρ n limit less u)
   unfolding ρ
@@ -105,11 +105,11 @@ unfolding ρ-lip
 
 ρ-most : (n limit less : ℕ) (u : Pair) → AtMost (n * 1000000) (ρ n limit less u)
 unfolding ρ ρ-up
-ρ-most n limit less u = record { high = go (leb (u .lo) limit) }
+ρ-most n limit less u = record { high = by-outcome (leb (u .lo) limit) }
   where
-    go : (p : Bool) → cond p (S n) (min (S n) (ceilDiv ((u .lo - less) * (S n * S n)) (u .lo * u .lo))) ≤ S n
-    go true = omega arith
-    go false = min-le-left _ _
+    by-outcome : (p : Bool) → cond p (S n) (min (S n) (ceilDiv ((u .lo - less) * (S n * S n)) (u .lo * u .lo))) ≤ S n
+    by-outcome true = omega arith
+    by-outcome false = min-le-left _ _
 
 ρ-plane-most : (n : ℕ) (u : Pair) → AtMost (n * 1000000) (ρ-plane n u)
 unfolding ρ-plane

@@ -14,7 +14,7 @@ use Rattle.section.specs.Room.{Fine, SlenderRoom, HalfRoom, FlangeRoom, 
 use Rattle.section.proofs.Shares.{ρ-web-box}
 use Rattle.section.proofs.Coefficient.{k-box}
 use Rattle.section.proofs.Ends.{scale}
-use Rattle.section.proofs.BoxRooms.{wider, box-slim, constant-box, mm-box, whole-box, ratio-room, times-room, over-room, root-room, times-by, by-times, over-by}
+use Rattle.section.proofs.BoxRooms.{wider, box-slim, constant-box, mm-box, whole-box, times-room, over-room, root-room, times-by, by-times, over-by}
 use Rattle.section.proofs.SheetNumbers.{WebNumbers, FlangeNumbers}
 
 -- a flange of width β in 0.01 mm, and u² of it and of its lip

@@ -1,10 +1,10 @@
 -- The printed figures, the eleventh question, and what they promise of every finer working. (Document 01, "Area, resistance, shift".)
 use Prim.Native.Nat.{ℕ, _+_, _*_, _/_, _≤_, _<_}
 use mathlib.Core.Bool.{Bool}
-use lib.Dec.{leb}
 use lib.IntN.{ℤ, pos, natAbs, _*ℤ_}
 use Rattle.pair.specs.Integers.{_≤ℤ_, floorOver, ceilOver}
 use Rattle.section.specs.declared.Sheet.{Sheet}
+use Rattle.section.specs.Claims.{Claim, _≤?_, Holds, test}
 use Rattle.section.specs.Working.{S, Worked, worked}
 
 pub record Printed : Type 0 where
@@ -42,12 +42,15 @@ pub record FiguresBelow (k : ℕ) (p : Printed) : Type 0 where
   pub shifthi : natAbs (p .shifthi) < k
 
 -- Is the area's upper end at most area + allow (in 0.01 mm²)?
+abbrev pub allowance : ℕ → Sheet → Claim
+allowance n q = (worked n q) .area .hi * 100 ≤? ((figures n q) .area + q .allow) * S n
+
 pub record Question11 (n : ℕ) (q : Sheet) : Type 0 where
-  pub allowed : (worked n q) .area .hi * 100 ≤ ((figures n q) .area + q .allow) * S n
+  pub allowed : Holds (allowance n q)
 
 -- the same as a test
 unfoldable pub allowed : ℕ → Sheet → Bool
-allowed n q = leb ((worked n q) .area .hi * 100) (((figures n q) .area + q .allow) * S n)
+allowed n q = test (allowance n q)
 
 -- A working at fineness n holds what is printed: each end of its area, of its axial resistance (area × fyb ÷ gm0, exact) and of its shift,
 -- as it stands and not rounded for print. In 0.01 mm², newtons and 0.01 mm; both sides are multiplied by what would divide them.

@@ -1,3 +1,4 @@
+pub mod Claims
 pub mod Sheets
 pub mod Working
 pub mod Figures

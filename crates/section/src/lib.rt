@@ -33,6 +33,12 @@ pub struct Sheet {
     pub allow: u64,
 }
 
+// The least and the most that a value of a sheet may be.
+pub struct Span {
+    pub least: u64,
+    pub most: u64,
+}
+
 // A flange with its lip: its mid-line width, and u² of flange and lip at full thickness.
 pub struct Flange {
     pub bp: Pair,

@@ -22,18 +22,25 @@ fn same(p: Pair, q: Pair) -> bool
     p.lo == q.lo && p.hi == q.hi
 }
 
+// Whether each of three pairs is the same as its other.
+fn all_same(p1: Pair, q1: Pair, p2: Pair, q2: Pair, p3: Pair, q3: Pair) -> bool
+    ensures { λ r. ⌜ (r ≡ true → (p1 ≡ q1) × (p2 ≡ q2) × (p3 ≡ q3)) × ((p1 ≡ q1) × (p2 ≡ q2) × (p3 ≡ q3) → r ≡ true) ⌝ }
+{
+    same(p1, q1) && (same(p2, q2) && same(p3, q3))
+}
+
 // Whether two stiffeners are the same.
 fn same_stiffener(a: Stiffener, b: Stiffener) -> bool
     ensures { λ r. ⌜ (r ≡ true → a ≡ b) × (a ≡ b → r ≡ true) ⌝ }
 {
-    same(a.be2, b.be2) && (same(a.c, b.c) && same(a.a, b.a))
+    all_same(a.be2, b.be2, a.c, b.c, a.a, b.a)
 }
 
 // Whether two flanges are the same.
 fn alike(f: Flange, g: Flange) -> bool
     ensures { λ r. ⌜ (r ≡ true → f ≡ g) × (f ≡ g → r ≡ true) ⌝ }
 {
-    same(f.bp, g.bp) && (same(f.plane, g.plane) && same(f.lip, g.lip))
+    all_same(f.bp, g.bp, f.plane, g.plane, f.lip, g.lip)
 }
 
 // A flange of mid-line width bp with its lip.

@@ -5,7 +5,7 @@ use crate::Nominal;
 use pair::Pair;
 use pair::wide;
 ghost use mathlib.Core.Path.{_≡_};
-ghost use Prim.Native.Nat.{_*_, _^_, _≤_, _<_};
+ghost use Prim.Native.Nat.{_*_};
 ghost use mathlib.Core.Bool.{true};
 ghost use Rattle.pair.specs.Fits.{timesRatioFits};
 ghost use Rattle.pair.specs.declared.Pair.{Pair};

@@ -30,11 +30,11 @@ in-step k n h = ap (λ (b : Bool). elim b as (λ x. List ℕ) [ true ↦ (digit0
 enough : (k m n : ℕ) → n ≤ k → n ≤ m → digitsIn k n ≡ digitsIn m n
 enough zero m n h g = in-small zero n (omega arith) ∙ sym (in-small m n (omega arith))
 enough (suc k) zero n h g = in-small (suc k) n (omega arith) ∙ sym (in-small zero n (omega arith))
-enough (suc k) (suc m) n h g = go (ltb n 10) refl (enough k m (n / 10))
+enough (suc k) (suc m) n h g = by-outcome (ltb n 10) refl (enough k m (n / 10))
   where
-    go : (b : Bool) → ltb n 10 ≡ b → (n / 10 ≤ k → n / 10 ≤ m → digitsIn k (n / 10) ≡ digitsIn m (n / 10)) → digitsIn (suc k) n ≡ digitsIn (suc m) n
-    go true e r = let l : n < 10 = ltb-true n 10 e in in-small (suc k) n l ∙ sym (in-small (suc m) n l)
-    go false e r =
+    by-outcome : (b : Bool) → ltb n 10 ≡ b → (n / 10 ≤ k → n / 10 ≤ m → digitsIn k (n / 10) ≡ digitsIn m (n / 10)) → digitsIn (suc k) n ≡ digitsIn (suc m) n
+    by-outcome true e r = let l : n < 10 = ltb-true n 10 e in in-small (suc k) n l ∙ sym (in-small (suc m) n l)
+    by-outcome false e r =
         let l : 10 ≤ n = ltb-false n 10 e in
         in-step k n l ∙ ap (λ (x : List ℕ). x ++ ((digit0 + n % 10) ∷ [])) (r (omega arith) (omega arith)) ∙ sym (in-step m n l)
 
@@ -57,11 +57,11 @@ length-step n h = ap length (decimal-step n h) ∙ length-snoc (decimal (n / 10)
 -- a number below 10 ^ suc k has at most suc k digits
 pub decimal-length : (k n : ℕ) → n < 10 ^ suc k → length (decimal n) ≤ suc k
 decimal-length zero n h = omega (arith, length-small n h)
-decimal-length (suc k) n h = go (ltb n 10) refl (decimal-length k (n / 10))
+decimal-length (suc k) n h = by-outcome (ltb n 10) refl (decimal-length k (n / 10))
   where
-    go : (b : Bool) → ltb n 10 ≡ b → (n / 10 < 10 ^ suc k → length (decimal (n / 10)) ≤ suc k) → length (decimal n) ≤ suc (suc k)
-    go true e r = omega (arith, length-small n (ltb-true n 10 e))
-    go false e r = omega (arith, length-step n (ltb-false n 10 e), r (omega arith))
+    by-outcome : (b : Bool) → ltb n 10 ≡ b → (n / 10 < 10 ^ suc k → length (decimal (n / 10)) ≤ suc k) → length (decimal n) ≤ suc (suc k)
+    by-outcome true e r = omega (arith, length-small n (ltb-true n 10 e))
+    by-outcome false e r = omega (arith, length-step n (ltb-false n 10 e), r (omega arith))
 
 power-positive : (k : ℕ) → 0 < 10 ^ k
 power-positive zero = omega arith
@@ -69,11 +69,11 @@ power-positive (suc k) = omega (arith, power-positive k)
 
 -- a number from 10 ^ k on has more than k digits
 more-digits : (k n : ℕ) → 10 ^ k ≤ n → k < length (decimal n)
-more-digits zero n h = go (ltb n 10) refl
+more-digits zero n h = by-outcome (ltb n 10) refl
   where
-    go : (b : Bool) → ltb n 10 ≡ b → 0 < length (decimal n)
-    go true e = omega (arith, length-small n (ltb-true n 10 e))
-    go false e = omega (arith, length-step n (ltb-false n 10 e))
+    by-outcome : (b : Bool) → ltb n 10 ≡ b → 0 < length (decimal n)
+    by-outcome true e = omega (arith, length-small n (ltb-true n 10 e))
+    by-outcome false e = omega (arith, length-step n (ltb-false n 10 e))
 more-digits (suc k) n h =
     let one : 0 < 10 ^ k = power-positive k in
     omega (arith, length-step n (omega arith), more-digits k (n / 10) (omega arith))
@@ -96,18 +96,18 @@ length-four n h =
 
 -- the length tells whether a digit stands before the last
 pub one-digit : (n : ℕ) → length (decimal n) ≤ 1 → n < 10
-one-digit n h = go (ltb n 10) refl
+one-digit n h = by-outcome (ltb n 10) refl
   where
-    go : (b : Bool) → ltb n 10 ≡ b → n < 10
-    go true e = ltb-true n 10 e
-    go false e = absurd (omega (arith, more-digits 1 n (ltb-false n 10 e)))
+    by-outcome : (b : Bool) → ltb n 10 ≡ b → n < 10
+    by-outcome true e = ltb-true n 10 e
+    by-outcome false e = absurd (omega (arith, more-digits 1 n (ltb-false n 10 e)))
 
 pub digits-before : (n : ℕ) → 1 < length (decimal n) → 10 ≤ n
-digits-before n h = go (ltb n 10) refl
+digits-before n h = by-outcome (ltb n 10) refl
   where
-    go : (b : Bool) → ltb n 10 ≡ b → 10 ≤ n
-    go true e = absurd (omega (arith, length-small n (ltb-true n 10 e)))
-    go false e = ltb-false n 10 e
+    by-outcome : (b : Bool) → ltb n 10 ≡ b → 10 ≤ n
+    by-outcome true e = absurd (omega (arith, length-small n (ltb-true n 10 e)))
+    by-outcome false e = ltb-false n 10 e
 
 pub put-small : (n : ℕ) (b : List ℕ) → n < 10 → 0 < length b → set b 0 (digit0 + n) ≡ over (decimal n) b
 put-small n b h g = rw (decimal-small n h) (over-first (digit0 + n) b g)

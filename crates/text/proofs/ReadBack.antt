@@ -229,16 +229,16 @@ next-digit left n d t h = let value : digit0 + d - digit0 ≡ d = omega arith in
 -- the digits of a number above zero are read one by one, with t still to come
 digits-back : (k n : ℕ) (t : List ℕ) → n ≤ k → 0 < n → length (decimal n) ≤ mostDigits → readNumber (decimal n ++ t) ≡ readDigits (mostDigits - length (decimal n)) n t
 digits-back zero n t h p len = absurd (omega arith)
-digits-back (suc k) n t h p len = go (ltb n 10) refl (digits-back k (n / 10))
+digits-back (suc k) n t h p len = by-outcome (ltb n 10) refl (digits-back k (n / 10))
   where
-    go : (b : Bool) → ltb n 10 ≡ b
+    by-outcome : (b : Bool) → ltb n 10 ≡ b
         → ((t : List ℕ) → n / 10 ≤ k → 0 < n / 10 → length (decimal (n / 10)) ≤ mostDigits → readNumber (decimal (n / 10) ++ t) ≡ readDigits (mostDigits - length (decimal (n / 10))) (n / 10) t)
         → readNumber (decimal n ++ t) ≡ readDigits (mostDigits - length (decimal n)) n t
-    go true e r =
+    by-outcome true e r =
         let small : n < 10 = ltb-true n 10 e in
         ap (λ (l : List ℕ). readNumber (l ++ t)) (decimal-small n small) ∙ first-digit n t p small
         ∙ ap (λ (m : ℕ). readDigits (mostDigits - m) n t) (sym (length-small n small))
-    go false e r =
+    by-outcome false e r =
         let big : 10 ≤ n = ltb-false n 10 e in
         let upper = n / 10 in
         let last = n % 10 in

@@ -22,11 +22,11 @@ use Rattle.text.proofs.ReadBack.{bad-not-got, got-value, got-rest, line
 
 -- reading line i gives a value, or none
 by-line : {P : Type 0} (i : ℕ) (s : List ℕ) → ((v : ℤ) (t : List ℕ) → readLine i s ≡ got v t → P) → (readLine i s ≡ bad → P) → P
-by-line {P} i s p q = go (readLine i s) refl
+by-line {P} i s p q = by-outcome (readLine i s) refl
   where
-    go : (f : Front) → readLine i s ≡ f → P
-    go (got v t) e = p v t e
-    go bad e = q e
+    by-outcome : (f : Front) → readLine i s ≡ f → P
+    by-outcome (got v t) e = p v t e
+    by-outcome bad e = q e
 
 values-not-bad : {vs : List ℤ} {l : ℕ} → badLine l ≡ values vs → ⊥
 values-not-bad e = let z : _≡_ {A = ℕ} 0 1 = cc in omega arith

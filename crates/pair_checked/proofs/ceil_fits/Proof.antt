@@ -1,6 +1,6 @@
 -- `pair_checked::ceil_fits` meets its contract.
 use mathlib.Core.Path.{_∙_, sym}
-use Prim.Native.Nat.{_*_, _/_}
+use Prim.Native.Nat.{_*_}
 use Rattle.pair_checked.proofs.Deciding.{quotient-out, ceil-test-exact, ceil-test-above, ceil-test-past}
 use borrow.Author.Needs.{needs}
 use Rattle.pair_checked.proofs.ceil_fits.Statement.{statement}

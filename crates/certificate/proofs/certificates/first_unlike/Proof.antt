@@ -12,7 +12,7 @@ use Rattle.pair.specs.SignedPairs.{integer}
 use Rattle.pair.specs.declared.signed.Integer.{Integer}
 use Rattle.text.specs.Keys.{sheetLines, certificateLines}
 use Rattle.text.specs.Forms.{integers}
-use Rattle.certificate.specs.Claims.{_is_, test}
+use Rattle.section.specs.Claims.{_is_, test}
 use Rattle.certificate.specs.Questions.{firstOf}
 use Rattle.certificate.specs.Certificates.{valueAt}
 use Rattle.certificate.specs.Outcome.{agreeing}

@@ -5,7 +5,7 @@ use lib.ListN.{length, drop}
 use borrow.Author.Tests.{not-true, not-false}
 use borrow.Author.Needs.{needs}
 use native.Mathlib.Omega.{arith}
-use Rattle.certificate.specs.declared.Span.{Span}
+use Rattle.section.specs.declared.Span.{Span}
 use Rattle.certificate.specs.Questions.{ranges, ranged, firstOf}
 use Rattle.certificate.proofs.Ranges.{out-of-range, in-range, all-in-range}
 use Rattle.certificate.proofs.questions.range.Statement.{statement}

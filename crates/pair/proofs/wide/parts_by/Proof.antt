@@ -1,5 +1,4 @@
 -- `pair::wide::parts_by` meets its contract.
-use native.Mathlib.Omega.{arith}
 use native.Mathlib.Nat.{mod-lt, le-of-eq, lt-of-le-of-lt}
 use Rattle.pair.proofs.Splits.{left-fits, is-quotient, product-split}
 use borrow.Author.Needs.{needs}

@@ -1,38 +1,18 @@
 -- `section::rounds::alike` meets its contract.
-use mathlib.Core.Path.{sym, ap, _∙_}
+use mathlib.Core.Path.{ap}
 use Rattle.section.specs.declared.Flange.{Flange}
-use Rattle.section.proofs.SamePairs.{same-ends, found-same}
 use borrow.Author.Needs.{needs}
 use Rattle.section.proofs.rounds.alike.Statement.{statement}
 use Rattle.section.proofs.rounds.alike.Tie as tie
 
-same-requires : tie.Need-same-requires
-same-requires c κs = search needs
-
-same-requires-2 : tie.Need-same-requires-2
-same-requires-2 c κs = search needs
-
-same-requires-3 : tie.Need-same-requires-3
-same-requires-3 c κs = search needs
+all-same-requires : tie.Need-all-same-requires
+all-same-requires c κs = search needs
 
 returns : tie.Need-returns
-returns c =
-    let one = same-ends _ _ (sym (c .before .before .before .before .same .ensures) ∙ c .before .before .before .if1 .taken) in
-    let two = same-ends _ _ (sym (c .before .before .same2 .ensures) ∙ c .before .if2 .taken) in (
-      λ e.
-          let three = same-ends _ _ (sym (c .same3 .ensures) ∙ e) in
-          λ i. record { bp = one i; plane = two i; lip = three i },
-      λ e. c .same3 .ensures ∙ found-same _ _ (ap (λ (x : Flange). x .lip) e),
-    )
-
-returns-2 : tie.Need-returns-2
-returns-2 c =
-    (λ e. cc (sym (c .if2 .left) ∙ e), λ e. c .before .same2 .ensures ∙ found-same _ _ (ap (λ (x : Flange). x .plane) e))
-
-returns-3 : tie.Need-returns-3
-returns-3 c =
-    (λ e. cc (sym (c .if1 .left) ∙ e), λ e. c .before .same .ensures ∙ found-same _ _ (ap (λ (x : Flange). x .bp) e))
+returns c = (
+  λ e. let same = c .all-same .ensures .0 e in λ i. record { bp = same .0 i; plane = same .1 i; lip = same .2 i },
+  λ e. c .all-same .ensures .1 (ap (λ (x : Flange). x .bp) e, ap (λ (x : Flange). x .plane) e, ap (λ (x : Flange). x .lip) e),
+)
 
 pub alike-spec : {M : Type 1} → statement M
-alike-spec =
-    tie.close (tie.spec same-requires same-requires-2 same-requires-3 returns returns-2 returns-3)
+alike-spec = tie.close (tie.spec all-same-requires returns)

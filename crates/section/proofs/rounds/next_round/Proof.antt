@@ -1,5 +1,5 @@
 -- `section::rounds::next_round` meets its contract.
-use mathlib.Core.Path.{_≡_, sym, _∙_}
+use mathlib.Core.Path.{sym, _∙_}
 use Rattle.section.specs.Working.{round, factors, mm, whole}
 use borrow.Author.Needs.{needs}
 use Rattle.section.proofs.rounds.next_round.Statement.{statement}

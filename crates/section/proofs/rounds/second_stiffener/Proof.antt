@@ -1,5 +1,5 @@
 -- `section::rounds::second_stiffener` meets its contract.
-use mathlib.Core.Path.{_≡_, sym, _∙_}
+use mathlib.Core.Path.{sym, _∙_}
 use Rattle.section.specs.Working.{stiffener-of}
 use Rattle.section.proofs.SamePairs.{same-ends}
 use borrow.Author.Needs.{needs}
