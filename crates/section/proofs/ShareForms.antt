@@ -28,10 +28,10 @@ module _ {n limit less u : ℕ} (r : Share n limit less u) where
   square-fits =
       lt-of-le-of-lt (mul-le-mul {n₁ = u} {m₁ = u} {n₂ = 400000000} {m₂ = 400000000} (omega (arith, r .most, r .fine .most)) (omega (arith, r .most, r .fine .most))) (omega arith)
 
-  -- what is divided is at most S × S times what divides it
   square-positive : limit < u → 0 < u * u
   square-positive h = mul-le-mul {n₁ = 1} {m₁ = 1} {n₂ = u} {m₂ = u} (omega arith) (omega arith)
 
+  -- what is divided is at most S × S times what divides it
   by-square : limit < u → (u - less) * S n * S n ≤ S n * S n * (u * u)
   by-square h = omega (arith, below-square, mul-le-mul-left {m = u} {n = u * u} (S n * S n) (omega (arith, mul-le-mul-left {m = 1} {n = u} u (omega arith))))
 
