@@ -21,4 +21,5 @@ for part in \
         diff -r "$made/$part" "$part"
     fi
 done
-echo "certificate cases: $(wc -l <"$made/crates/certificate_cases/args") texts, as the reference answers them"
+count=$(wc -l <"$made/crates/certificate_cases/args")
+echo "certificate cases: $count texts, as the reference answers them"

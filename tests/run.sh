@@ -4,12 +4,12 @@ set -eu
 cd "$(dirname "$0")/.."
 
 # The expected output of the cases is what exact arithmetic gives, and not what the program printed.
-if command -v python3 >/dev/null; then
-    python3 tests/pair_cases.py --check
-    python3 tests/text_cases.py --check
-else
-    echo "python3 is not here: expected output is taken as kept, and not made anew"
+if ! command -v python3 >/dev/null; then
+    echo "python3 is not here: it is needed to make the expected values of the cases anew" >&2
+    exit 1
 fi
+python3 tests/pair_cases.py --check
+python3 tests/text_cases.py --check
 
 # The reference holds to the paper's cases, and what the programs read and have to print is its own.
 cargo test --release --offline -q --manifest-path tests/reference/Cargo.toml
@@ -21,5 +21,8 @@ tests/certificate_cases.sh
 cc -std=c99 -pedantic -Wall -Wextra -Werror -fsyntax-only include/certificate.h
 tests/outside/run.sh
 tests/examples.sh
+
+# The built programs print what the reference says, and say when they cannot read or write.
+tests/programs.sh
 
 rt ci

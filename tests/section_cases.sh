@@ -26,4 +26,5 @@ for file in stdin stdout; do
         cmp "$made/$file" "$crate/$file"
     fi
 done
-echo "section cases: $(wc -l <"$made/stdin") sections, as the reference writes them"
+count=$(wc -l <"$made/stdin")
+echo "section cases: $count sections, as the reference writes them"

@@ -2,11 +2,12 @@
 # Proves crate certificate, builds it as a static library, and times it beside plain C and the reference.
 # The archive and plain C (with the division that it calls) stand at five places of the program each,
 # since where code lies changes how long it takes.
-set -eu
+set -euo pipefail
 cd "$(dirname "$0")/../.."
 here=tests/bench
 made=target/bench
 mkdir -p $made
+libgcc=$(cc -print-libgcc-file-name)
 
 rt staticlib certificate | tail -1
 cargo build --release --offline -q --manifest-path $here/reference/Cargo.toml --target-dir $made/reference
@@ -26,7 +27,7 @@ placed() {
     name=$1 prefix=$2 place=$3
     padding $((16 + place * 1040)) $made/before.o
     padding $((16 + place * 48)) $made/between.o
-    ld -r -o $made/joined.o $made/before.o "$made/$name.o" $made/between.o "$(cc -print-libgcc-file-name)"
+    ld -r -o $made/joined.o $made/before.o "$made/$name.o" $made/between.o "$libgcc"
     set --
     for call in write check from_numbers; do
         objcopy --redefine-sym "${prefix}_$call=${name}_${call}_$place" $made/joined.o

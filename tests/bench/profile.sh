@@ -1,7 +1,7 @@
 #!/usr/bin/env bash
 # Says which functions of the archive a certificate with 3 rounds spends its instructions in (valgrind),
 # and its time (perf). Small functions are counted with those that the compiler put them into.
-set -eu
+set -euo pipefail
 cd "$(dirname "$0")/../.."
 made=target/bench
 sheets=400

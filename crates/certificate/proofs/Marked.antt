@@ -4,6 +4,7 @@ use mathlib.Core.Path.{_≡_, refl}
 use mathlib.Core.List.{map}
 use mathlib.Core.Bool.{true}
 use lib.IntN.{ℤ}
+use lib.ListN.{length}
 use Rattle.pair.specs.Rounding.{ceilDiv, rootUp}
 use Rattle.pair.specs.Pairs.{exact, ratio, plus, minus, times, over, root, cubeRoot}
 use Rattle.pair.specs.Integers.{_≤ℤ_, lebℤ, least, greatest, floorOver, ceilOver}
@@ -28,8 +29,8 @@ use Rattle.certificate.specs.MarkedCases.{Says, sheetA, sheetB, sheet11,
 between : {least x most : ℤ} → lebℤ least x ≡ true → lebℤ x most ≡ true → (least ≤ℤ x) × (x ≤ℤ most)
 between low high = (lebℤ-true _ _ low, lebℤ-true _ _ high)
 
--- every marked case holds
-pub marked-cases : Each (map Says marked)
+-- there are thirteen marked cases, and each holds
+pub marked-cases : (length marked ≡ 13) × Each (map Says marked)
 unfolding
     -- of pair
     ceilDiv rootUp exact ratio plus minus times over root cubeRoot
@@ -47,4 +48,4 @@ unfolding
     fitting question12 writing settled outcomeOf outcomeRead outcome answerOf
     sheetA sheetB sheet11 sheet12 sheet13 figuresRead figuresIn figuresB marked
 marked-cases =
-    (refl, (refl, (refl, (refl, (refl, ((refl, refl), (refl, (refl, (refl, ((refl, (refl, (between refl refl, (between refl refl, between refl refl)))), (refl, (refl, (refl, tt)))))))))))))
+    (refl, (refl, (refl, (refl, (refl, (refl, ((refl, refl), (refl, (refl, (refl, ((refl, (refl, (between refl refl, (between refl refl, between refl refl)))), (refl, (refl, (refl, tt))))))))))))))

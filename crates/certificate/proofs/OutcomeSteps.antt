@@ -1,7 +1,7 @@
 -- The steps of the code that writes and checks, each with what it gives.
 use Prim.Native.Nat.{ℕ, _+_, _≤_, _<_}
 use mathlib.Core.List.{List, [], _∷_, _++_}
-use mathlib.Core.Path.{_≡_, sym, ap, _∙_, subst}
+use mathlib.Core.Path.{_≡_, refl, sym, ap, _∙_, subst}
 use mathlib.Core.Bool.{true, false}
 use native.Mathlib.Omega.{arith}
 use native.Mathlib.Numerals.{add-one}
@@ -14,14 +14,11 @@ use Rattle.section.specs.declared.Sheet.{Sheet}
 use Rattle.section.specs.declared.Figures.{Figures}
 use Rattle.section.specs.Claims.{_is_, test}
 use Rattle.section.specs.Figures.{Printed, figures}
-use Rattle.section.specs.Forms.{printedOf}
+use Rattle.section.specs.Forms.{figuresOf}
 use Rattle.text.specs.Keys.{sheetLines, certificateLines}
 use Rattle.text.specs.Lines.{over, linesText, longest}
 use Rattle.text.specs.Reading.{Reading, values, badLine, readLines}
-use Rattle.text.specs.Forms.{integers, reading}
-use Rattle.text.specs.declared.reading.Verdict.{Verdict as Lines}
-use Rattle.text.specs.declared.reading.Verdict.the-variants.{Right, BadLine}
-use Rattle.text.proofs.Theorems.{reading-right, reading-bad}
+use Rattle.text.specs.Forms.{integers}
 use Rattle.certificate.specs.declared.Answer.{Answer}
 use Rattle.certificate.specs.declared.Refusal.{Refusal}
 use Rattle.certificate.specs.declared.Refusal.the-variants.{Spelling, Room, Figure}
@@ -30,21 +27,13 @@ use Rattle.certificate.specs.declared.Found.the-variants.{Refused, Met}
 use Rattle.certificate.specs.declared.Verdict.{Verdict}
 use Rattle.certificate.specs.declared.Verdict.the-variants.{Refused as Turned, Accepted}
 use Rattle.certificate.specs.Refusals.{answer, told}
-use Rattle.certificate.specs.Questions.{_else_, questions, firstOf, firstIn, Judged, accepted, verdict, judgedOf}
+use Rattle.certificate.specs.Questions.{_else_, questions, firstOf, firstIn, Judged, accepted, judged, verdict, verdictOf}
 use Rattle.certificate.specs.Questions.{refused as turned}
 use Rattle.certificate.specs.Certificates.{sheetValues, figureValues, certificateValues, certificateOf, sheetShown}
 use Rattle.certificate.specs.Outcome.{fitting, question12, agreeing, question13, writing, checking, Outcome, refused, written, settled, fitted, outcomeOf, outcomeRead, outcome, answerOf, bufferAfter, checkedRead, checked, checkAnswer}
 use Rattle.certificate.proofs.Steps.{in-turn, then-nothing}
 use Rattle.certificate.proofs.Theorems.{judged-refused, judged-accepted, accepted-is-met}
 use Rattle.certificate.proofs.Shown.{length-most}
-
--- what the reader found
-module _ (v : Lines) (vs : List ℤ) (x : Reading) where
-  pub read-bad : (l : ℕ) → reading v vs ≡ x → v ≡ BadLine l → x ≡ badLine l
-  read-bad l e g = sym e ∙ ap (λ (w : Lines). reading w vs) g ∙ reading-bad l vs
-
-  pub read-right : reading v vs ≡ x → v ≡ Right → x ≡ values vs
-  read-right e g = sym e ∙ ap (λ (w : Lines). reading w vs) g ∙ reading-right vs
 
 -- the first question, of a sheet and of a certificate
 module _ (s : List ℕ) (room : ℕ) where
@@ -65,9 +54,9 @@ module _ (c : List ℕ) where
   unfolding checked checkedRead
   right-certificate vs e = ap checkedRead e
 
-pub found-in-lines : (c : List ℕ) (v : Lines) (vs : List ℤ) (f : Found) → reading v vs ≡ readLines certificateLines c → v ≡ Right → f ≡ checkedRead (values vs) → checked c ≡ f
+pub found-in-lines : (c : List ℕ) (vs : List ℤ) (f : Found) → readLines certificateLines c ≡ values vs → f ≡ checkedRead (values vs) → checked c ≡ f
 unfolding checked
-found-in-lines c v vs f e g h = ap checkedRead (read-right v vs _ e g) ∙ sym h
+found-in-lines c vs f e h = ap checkedRead e ∙ sym h
 
 -- an array of the code has as many values as a certificate has lines
 pub found-in-array : (vs : List Integer) → length vs ≡ certificateLines
@@ -75,14 +64,21 @@ pub found-in-array : (vs : List Integer) → length vs ≡ certificateLines
 unfolding checkedRead
 found-in-array vs n = ap (λ (l : List Integer). checkedRead (values (integers l))) (take-all certificateLines vs (omega (arith, n)))
 
--- what the code's verdict stands for
-pub judged-refusal : {v : Verdict} {j : Judged} {r : Refusal} → judgedOf v ≡ j → v ≡ Turned r → j ≡ turned r
-unfolding judgedOf
-judged-refusal e g = sym e ∙ ap judgedOf g
+-- what the code's verdict says: the refusal, or the figures
+pub judged-refusal : (j : Judged) {v : Verdict} {r : Refusal} → v ≡ verdictOf j → v ≡ Turned r → j ≡ turned r
+unfolding verdictOf
+judged-refusal (turned s) e g = cc
+judged-refusal (accepted p) e g = let z : _≡_ {A = ℕ} 0 1 = cc in absurd (omega arith)
 
-pub judged-figures : {v : Verdict} {j : Judged} {f : Figures} → judgedOf v ≡ j → v ≡ Accepted f → j ≡ accepted (printedOf f)
-unfolding judgedOf
-judged-figures e g = sym e ∙ ap judgedOf g
+judged-form : (x : Found) (p : Printed) {v : Verdict} {f : Figures} → v ≡ verdictOf (judged x p) → v ≡ Accepted f → (judged x p ≡ accepted p) × (f ≡ figuresOf p)
+unfolding judged verdictOf
+judged-form Met p e g = (refl, cc)
+judged-form (Refused r) p e g = let z : _≡_ {A = ℕ} 0 1 = cc in absurd (omega arith)
+
+pub judged-figures : (q : Sheet) {v : Verdict} {f : Figures} → v ≡ verdictOf (verdict q) → v ≡ Accepted f
+    → (verdict q ≡ accepted (figures 1 q)) × (f ≡ figuresOf (figures 1 q))
+unfolding verdict
+judged-figures q e g = judged-form (firstIn (questions q)) (figures 1 q) e g
 
 -- the questions up to the eleventh, then the one behind
 module _ (q : Sheet) where

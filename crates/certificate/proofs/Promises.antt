@@ -14,21 +14,23 @@ use Rattle.section.specs.Working.{worked}
 use Rattle.section.specs.Figures.{Printed, figures, Question11, Held}
 use Rattle.section.proofs.Theorems.{finer-working-held}
 use Rattle.text.specs.Keys.{sheetLines, certificateLines}
-use Rattle.text.specs.Lines.{linesFrom, linesText, SpeltFrom, TextOf, FirstBad}
+use Rattle.text.specs.Lines.{linesFrom, linesText, longest, SpeltFrom, TextOf, FirstBad}
 use Rattle.text.specs.Reading.{Reading, values, badLine, readLines}
 use Rattle.text.proofs.LineLaws.{lines-join}
-use Rattle.text.proofs.Theorems.{reads-values, reads-bad, longest-sheet, longest-certificate, cut-behind}
+use Rattle.text.proofs.Theorems.{reads-values, reads-bad, cut-behind}
+use Rattle.certificate.specs.declared.Answer.{Answer}
 use Rattle.certificate.specs.declared.Refusal.{Refusal}
-use Rattle.certificate.specs.declared.Refusal.the-variants.{Spelling, Room}
+use Rattle.certificate.specs.declared.Refusal.the-variants.{Spelling}
 use Rattle.certificate.specs.declared.Found.{Found}
 use Rattle.certificate.specs.declared.Found.the-variants.{Refused, Met}
+use Rattle.certificate.specs.Refusals.{answer, told}
 use Rattle.certificate.specs.Questions.{firstIn}
-use Rattle.certificate.specs.Reasons.{Each, Reason, facts-on-numbers, facts}
+use Rattle.certificate.specs.Reasons.{Each, Reason, facts-on-numbers, facts, Found-as, Refuses}
 use Rattle.certificate.specs.Certificates.{sheetValues, figureValues, certificateValues, certificateOf, sheetShown, figuresShown}
-use Rattle.certificate.specs.Outcome.{writing, checking, refused, written, settled, outcomeOf, outcomeRead, outcome, checkedRead, checked, checkAnswer}
-use Rattle.certificate.specs.Promises.{Question1, Question12, Question13, facts-of-writing, facts-of-checking, Written, OwnBytesFirst, Misspelt, Unmet, Unlike, Issued, HoldsFinerWorkings, FinerWorkingsHeld}
-use Rattle.certificate.proofs.FirstNos.{each-when-met, met-when-each, reason-when-refused, refused-when-reason}
-use Rattle.certificate.proofs.Ties.{writing-tied, checking-tied}
+use Rattle.certificate.specs.Outcome.{writing, checking, refused, written, settled, Outcome, outcomeOf, outcomeRead, outcome, answerOf, checkedRead, checked, checkAnswer}
+use Rattle.certificate.specs.Promises.{Question1, Question12, Question13, facts-of-writing, facts-of-checking, lines-of-writing, lines-of-checking, Written, Misspelt, NumbersUnmet, Unmet, Unlike, Issued, HoldsFinerWorkings, own-lines, WrittenAndHeld, HeldForItsSheet, FinerWorkingsHeld}
+use Rattle.certificate.proofs.FirstNos.{each-when-met, met-when-each, found-with-reason}
+use Rattle.certificate.proofs.Ties.{writing-tied, checking-tied, writing-told, checking-told}
 use Rattle.certificate.proofs.Theorems.{each-is-sound, each-of-both}
 use Rattle.certificate.proofs.Shown.{sheet-back, figures-back, sheet-count, behind-sheet, sheet-alone, values-back, split-at-sheet, sheet-spelt, certificate-text, length-most}
 use Rattle.certificate.proofs.OutcomeSteps.{bad-sheet, right-sheet, bad-certificate, right-certificate}
@@ -55,10 +57,28 @@ unfolding settled
 settled-written Met t u = (λ e. (refl, cc), λ h. cc (h .1))
 settled-written (Refused r) t u = (λ e. absurd (written-not-refused e), λ h. absurd (met-not-refused (h .0)))
 
-settled-refused : (f : Found) (t : List ℕ) (r : Refusal) → (settled f t ≡ refused r) ↔ (f ≡ Refused r)
-unfolding settled
-settled-refused Met t r = (λ e. absurd (written-not-refused (sym e)), λ e. absurd (met-not-refused (sym e)))
-settled-refused (Refused u) t r = (λ e. ap Refused (refused-same e), λ e. ap refused (found-same e))
+-- what is answered where a refusal is found, and where none is
+found-answered : (f : Found) (t : List ℕ) (a : Answer) → Refuses (answerOf (settled f t)) a ↔ (Found-as f a × (1 ≤ a .refusal))
+unfolding settled answerOf
+found-answered (Refused r) t a = (
+  λ h. (record { refusal = r; found = refl; tells = h .is }, h .number),
+  λ h. record { is = ap told (found-same (h .0 .found)) ∙ h .0 .tells; number = h .1 },
+)
+found-answered Met t a = (
+  λ h. absurd (omega (arith, h .number, ap (λ (x : Answer). x .refusal) (h .is))),
+  λ h. absurd (met-not-refused (sym (h .0 .found))),
+)
+
+misspelt-refuses : {x a : Answer} {l : ℕ} → x ≡ answer 1 l 0 → a ≡ answer 1 l 0 → Refuses x a
+misspelt-refuses e g = record { is = e ∙ sym g; number = omega (arith, ap (λ (y : Answer). y .refusal) g) }
+
+-- a certificate is its sheet's own lines, then the six of the working at our scale
+own-lines-then : (q : Sheet) → certificateOf q ≡ own-lines q ++ linesFrom sheetLines (figureValues (figures 1 q))
+unfolding certificateOf certificateValues
+own-lines-then q =
+    let p = figureValues (figures 1 q) in
+    lines-join 0 (sheetValues q) p
+    ∙ ap (λ (k : ℕ). own-lines q ++ linesFrom k p) (ap (λ (k : ℕ). 0 + k) (sheet-count q))
 
 -- Twelve numbers.
 module _ (q : Sheet) (room : ℕ) where
@@ -68,19 +88,17 @@ module _ (q : Sheet) (room : ℕ) where
   numbers-written t =
       let s = settled-written (firstIn (writing room q)) (certificateOf q) t in
       let tied = writing-tied q room in (
-        λ e. let h = s .0 e in (each-when-met 2 (writing room q) (facts-of-writing room q) tied (h .0), h .1),
-        λ h. s .1 (met-when-each 2 (writing room q) (facts-of-writing room q) tied (h .0), h .1),
+        λ e. let h = s .0 e in (each-when-met (writing room q) (facts-of-writing room q) tied (h .0), h .1),
+        λ h. s .1 (met-when-each (writing room q) (facts-of-writing room q) tied (h .0), h .1),
       )
 
-  -- and refused exactly where there is a reason
-  pub numbers-refused : (r : Refusal) → (outcomeOf q room ≡ refused r) ↔ Reason (writing room q) (facts-of-writing room q) r
+  -- and refused, with its number, line and length, exactly where there is a reason
+  pub numbers-refused : (a : Answer) → Refuses (answerOf (outcomeOf q room)) a ↔ NumbersUnmet q room a
   unfolding outcomeOf
-  numbers-refused r =
-      let s = settled-refused (firstIn (writing room q)) (certificateOf q) r in
-      let tied = writing-tied q room in (
-        λ e. reason-when-refused (writing room q) (facts-of-writing room q) tied r (s .0 e),
-        λ h. s .1 (refused-when-reason (writing room q) (facts-of-writing room q) tied r h),
-      )
+  numbers-refused a =
+      let e = found-answered (firstIn (writing room q)) (certificateOf q) a in
+      let r = found-with-reason _ (writing room q) (lines-of-writing room q) (facts-of-writing room q) (writing-tied q room) (writing-told q room) a in
+      (λ h. r .0 (e .0 h .0), λ h. e .1 (r .1 h, omega (arith, h .on-numbers)))
 
   facts-are : Each (facts-of-writing room q) → Sound q × Question11 1 q
   facts-are h =
@@ -119,75 +137,76 @@ module _ (s : List ℕ) where
       λ h. shown (h .sheet) room (h .question1) ∙ numbers-written (h .sheet) room t .1 (h .questions, h .text),
     )
 
-    -- and refused exactly where a line is bad, or there is a reason in its numbers
-    pub sheet-refused : (r : Refusal) → (outcome s room ≡ refused r) ↔ (Misspelt sheetLines s r ⊎ Unmet s room r)
-    sheet-refused r = (
-      λ e.
+    bad-answer : (l : ℕ) → readLines sheetLines s ≡ badLine l → answerOf (outcome s room) ≡ answer 1 l 0
+    unfolding answerOf
+    bad-answer l g = ap answerOf (bad-sheet s room l g)
+
+    -- and refused, with its number, line and length, exactly where a line is bad, or there is a reason in its numbers
+    pub sheet-refused : (a : Answer) → Refuses (answerOf (outcome s room)) a ↔ (Misspelt sheetLines s a ⊎ Unmet s room a)
+    sheet-refused a = (
+      λ h.
           by-reading (readLines sheetLines s)
           (λ vs g. inr (record {
             sheet = sheetShown vs;
             question1 = shows vs g;
-            reason = numbers-refused (sheetShown vs) room r .0 (sym (right-sheet s room vs g) ∙ e);
+            reason = numbers-refused (sheetShown vs) room a .0 (record { is = ap answerOf (sym (right-sheet s room vs g)) ∙ h .is; number = h .number });
           }))
-          (λ l g. inl (record { line = l; bad = reads-bad sheetLines s l .0 g; told = refused-same (sym e ∙ bad-sheet s room l g) })),
+          (λ l g. inl (record { line = l; bad = reads-bad sheetLines s l .0 g; told = sym (h .is) ∙ bad-answer l g })),
       ⊎-elim
-          (λ m. bad-sheet s room (m .line) (reads-bad sheetLines s (m .line) .1 (m .bad)) ∙ ap refused (sym (m .told)))
-          (λ u. shown (u .sheet) room (u .question1) ∙ numbers-refused (u .sheet) room r .1 (u .reason)),
+          (λ m. misspelt-refuses (bad-answer (m .line) (reads-bad sheetLines s (m .line) .1 (m .bad))) (m .told))
+          (λ u.
+          let r = numbers-refused (u .sheet) room a .1 (u .reason) in
+          record { is = ap answerOf (shown (u .sheet) room (u .question1)) ∙ r .is; number = r .number }),
     )
 
-    -- refusal 1 names line l exactly where l is the first bad line
-    pub first-bad-line : (l : ℕ) → (outcome s room ≡ refused (Spelling l)) ↔ FirstBad sheetLines s l
+    -- the answer is 1 and line l exactly where l is the first bad line
+    pub first-bad-line : (l : ℕ) → (answerOf (outcome s room) ≡ answer 1 l 0) ↔ FirstBad sheetLines s l
     first-bad-line l = (
       λ e.
-          ⊎-elim (λ m. subst (FirstBad sheetLines s) (spelling-same (m .told)) (m .bad)) (λ u. absurd (omega (arith, u .reason .on-numbers)))
-          (sheet-refused (Spelling l) .0 e),
-      λ h. bad-sheet s room l (reads-bad sheetLines s l .1 h),
+          ⊎-elim
+          (λ m. subst (FirstBad sheetLines s) (sym (ap (λ (x : Answer). x .line) (m .told))) (m .bad))
+          (λ u. absurd (omega (arith, u .reason .on-numbers)))
+          (sheet-refused (answer 1 l 0) .0 (record { is = e; number = omega arith })),
+      λ h. bad-answer l (reads-bad sheetLines s l .1 h),
     )
-      where
-        spelling-same : {k : ℕ} → Spelling l ≡ Spelling k → k ≡ l
-        spelling-same e = cc
-
-    -- what is written is the sheet's own bytes, then the six lines of the working at our scale
-    pub own-bytes-first : (t : List ℕ) → outcome s room ≡ written t → OwnBytesFirst s t
-    unfolding certificateOf certificateValues
-    own-bytes-first t e =
-        let h = sheet-written t .0 e in
-        let q = h .sheet in
-        let p = figureValues (figures 1 q) in
-        record {
-          sheet = q;
-          question1 = h .question1;
-          text =
-              h .text ∙ lines-join 0 (sheetValues q) p
-              ∙ ap (λ (k : ℕ). linesText (sheetValues q) ++ linesFrom k p) (ap (λ (k : ℕ). 0 + k) (sheet-count q))
-              ∙ ap (λ (l : List ℕ). l ++ linesFrom sheetLines p) (sym (h .question1 .text .text));
-        }
 
 -- A certificate's bytes.
 module _ (c : List ℕ) where
   lines-count : (vs : List ℤ) → readLines certificateLines c ≡ values vs → length vs ≡ certificateLines
   lines-count vs g = reads-values certificateLines c vs .0 g .count
 
-  -- it is refused exactly where a line is bad, or there is a reason in its values
-  pub check-refused : (r : Refusal) → (checked c ≡ Refused r) ↔ (Misspelt certificateLines c r ⊎ Unlike c r)
-  check-refused r = (
-    λ e.
+  -- what is answered to what checking finds
+  found-checked : (f : Found) (a : Answer) → Refuses (checkAnswer c f) a ↔ (Found-as f a × (1 ≤ a .refusal))
+  unfolding checkAnswer settled answerOf
+  found-checked (Refused r) a = found-answered (Refused r) c a
+  found-checked Met a = found-answered Met c a
+
+  checked-with-reason : (vs : List ℤ) → readLines certificateLines c ≡ values vs → (a : Answer)
+      → Refuses (checkAnswer c (checked c)) a ↔ Reason (lines-of-checking vs (sheetShown vs)) (facts-of-checking vs (sheetShown vs)) 0 a
+  checked-with-reason vs g a =
+      let q = sheetShown vs in
+      let n = lines-count vs g in
+      let e = found-checked (checked c) a in
+      let r = found-with-reason 0 (checking vs q) (lines-of-checking vs q) (facts-of-checking vs q) (checking-tied vs q n) (checking-told vs q n) a in
+      let same = right-certificate c vs g in (
+        λ h. r .0 (subst (λ (f : Found). Found-as f a) same (e .0 h .0)),
+        λ h. e .1 (subst (λ (f : Found). Found-as f a) (sym same) (r .1 h), omega (arith, h .on-numbers)),
+      )
+
+  bad-check : (l : ℕ) → readLines certificateLines c ≡ badLine l → checkAnswer c (checked c) ≡ answer 1 l 0
+  unfolding checkAnswer
+  bad-check l g = ap (checkAnswer c) (bad-certificate c l g)
+
+  -- it is refused, with its number, line and length, exactly where a line is bad, or there is a reason in its values
+  pub check-refused : (a : Answer) → Refuses (checkAnswer c (checked c)) a ↔ (Misspelt certificateLines c a ⊎ Unlike c a)
+  check-refused a = (
+    λ h.
         by-reading (readLines certificateLines c)
-        (λ vs g.
-        let q = sheetShown vs in
-        inr (record {
-          shown = vs;
-          text = reads-values certificateLines c vs .0 g;
-          reason = reason-when-refused (checking vs q) (facts-of-checking vs q) (checking-tied vs q (lines-count vs g)) r (sym (right-certificate c vs g) ∙ e);
-        }))
-        (λ l g. inl (record { line = l; bad = reads-bad certificateLines c l .0 g; told = found-same (sym e ∙ bad-certificate c l g) })),
+        (λ vs g. inr (record { shown = vs; text = reads-values certificateLines c vs .0 g; reason = checked-with-reason vs g a .0 h }))
+        (λ l g. inl (record { line = l; bad = reads-bad certificateLines c l .0 g; told = sym (h .is) ∙ bad-check l g })),
     ⊎-elim
-        (λ m. bad-certificate c (m .line) (reads-bad certificateLines c (m .line) .1 (m .bad)) ∙ ap Refused (sym (m .told)))
-        (λ u.
-        let vs = u .shown in
-        let q = sheetShown vs in
-        let g = reads-values certificateLines c vs .1 (u .text) in
-        right-certificate c vs g ∙ refused-when-reason (checking vs q) (facts-of-checking vs q) (checking-tied vs q (lines-count vs g)) r (u .reason)),
+        (λ m. misspelt-refuses (bad-check (m .line) (reads-bad certificateLines c (m .line) .1 (m .bad))) (m .told))
+        (λ u. checked-with-reason (u .shown) (reads-values certificateLines c (u .shown) .1 (u .text)) a .1 (u .reason)),
   )
 
   -- what passes is the certificate of the sheet that it shows
@@ -196,7 +215,7 @@ module _ (c : List ℕ) where
   passed-is vs g e =
       let q = sheetShown vs in
       let t = reads-values certificateLines c vs .0 g in
-      let met = each-when-met 2 (checking vs q) (facts-of-checking vs q) (checking-tied vs q (t .count)) (sym (right-certificate c vs g) ∙ e) in
+      let met = each-when-met (checking vs q) (facts-of-checking vs q) (checking-tied vs q (t .count)) (sym (right-certificate c vs g) ∙ e) in
       let both = each-of-both (facts q) (Unit ∷ Question13 vs q ∷ []) .0 met in
       let parts = split-at-sheet vs (omega (arith, t .count)) (t .spelt) ∙ ap (λ (l : List ℤ). sheetValues q ++ l) (both .1 .1 .0 .agree) in
       (both .0, t .text ∙ ap linesText parts)
@@ -212,7 +231,7 @@ module _ (c : List ℕ) where
       let agree : Question13 vs q = record { agree = behind-sheet q (figureValues (figures 1 q)) } in
       right-certificate c vs g
       ∙ ap (λ (x : Sheet). firstIn (checking vs x)) (sheet-back q (figureValues (figures 1 q)))
-      ∙ met-when-each 2 (checking vs q) (facts-of-checking vs q) (checking-tied vs q (t .count)) (each-of-both (facts q) (Unit ∷ Question13 vs q ∷ []) .1 (h, (tt, (agree, tt))))
+      ∙ met-when-each (checking vs q) (facts-of-checking vs q) (checking-tied vs q (t .count)) (each-of-both (facts q) (Unit ∷ Question13 vs q ∷ []) .1 (h, (tt, (agree, tt))))
 
 -- a certificate of a sheet that meets questions 2 to 11 is written, given room
 issued-for : (q : Sheet) → Each (facts q) → outcomeOf q (length (certificateOf q)) ≡ written (certificateOf q)
@@ -242,74 +261,103 @@ passes-when-issued c = (
 )
 
 -- A written certificate is no longer than the longest.
-pub numbers-length : (q : Sheet) (room : ℕ) (t : List ℕ) → outcomeOf q room ≡ written t → length t ≤ 273
+pub numbers-length : (q : Sheet) (room : ℕ) (t : List ℕ) → outcomeOf q room ≡ written t → length t ≤ longest certificateLines
 numbers-length q room t e =
     let h = numbers-written q room t .0 e in
-    omega (arith, ap length (h .1), length-most q (facts-are q room (h .0) .0), longest-certificate)
+    omega (arith, ap length (h .1), length-most q (facts-are q room (h .0) .0))
 
-pub sheet-length : (s : List ℕ) (room : ℕ) (t : List ℕ) → outcome s room ≡ written t → length t ≤ 273
+pub sheet-length : (s : List ℕ) (room : ℕ) (t : List ℕ) → outcome s room ≡ written t → length t ≤ longest certificateLines
 sheet-length s room t e =
     let h = sheet-written s room t .0 e in
-    omega (arith, ap length (h .text), length-most (h .sheet) (facts-are (h .sheet) room (h .questions) .0), longest-certificate)
+    omega (arith, ap length (h .text), length-most (h .sheet) (facts-are (h .sheet) room (h .questions) .0))
 
--- so a room of the longest never is too small
-pub room-enough : (s : List ℕ) (room n : ℕ) → 273 ≤ room → outcome s room ≡ refused (Room n) → ⊥
-room-enough s room n h e =
-    ⊎-elim
-    (λ m. spelling-not-room (m .told))
-    (λ u.
-    let q = u .sheet in
-    let sound = each-is-sound q .0 (each-of-both (facts-on-numbers q) (Question11 1 q ∷ []) .0 (u .reason .before) .0) in
-    u .reason .unmet (record { fits = omega (arith, h, length-most q sound, longest-certificate) }))
-    (sheet-refused s room (Room n) .0 e)
-  where
-    spelling-not-room : {l : ℕ} → Room n ≡ Spelling l → ⊥
-    spelling-not-room g = let z : _≡_ {A = ℕ} 0 1 = cc in omega arith
+-- So a room of the longest never is too small, for numbers and for text.
+module _ (room : ℕ) (enough : longest certificateLines ≤ room) where
+  not-unmet : (q : Sheet) (a : Answer) → a .refusal ≡ 12 → NumbersUnmet q room a → ⊥
+  not-unmet q a e h =
+      let here = rw e at (h .before) in
+      let sound = each-is-sound q .0 (each-of-both (facts-on-numbers q) (Question11 1 q ∷ []) .0 here .0) in
+      let unmet = rw e at (h .unmet) in
+      unmet (record { fits = omega (arith, enough, length-most q sound) })
+
+  pub room-for-numbers : (q : Sheet) → (answerOf (outcomeOf q room)) .refusal ≡ 12 → ⊥
+  room-for-numbers q e =
+      let a = answerOf (outcomeOf q room) in
+      not-unmet q a e (numbers-refused q room a .0 (record { is = refl; number = omega (arith, e) }))
+
+  pub room-for-text : (s : List ℕ) → (answerOf (outcome s room)) .refusal ≡ 12 → ⊥
+  room-for-text s e =
+      let a = answerOf (outcome s room) in
+      ⊎-elim
+      (λ m. omega (arith, e, ap (λ (x : Answer). x .refusal) (m .told)))
+      (λ u. not-unmet (u .sheet) a e (u .reason))
+      (sheet-refused s room a .0 (record { is = refl; number = omega (arith, e) }))
 
 -- No byte behind the longest text and one more decides.
-pub cut-sheet : (s : List ℕ) (m room : ℕ) → 168 < m → outcome (take m s) room ≡ outcome s room
+pub cut-sheet : (s : List ℕ) (m room : ℕ) → longest sheetLines < m → outcome (take m s) room ≡ outcome s room
 unfolding outcome
-cut-sheet s m room h = ap (λ (r : Reading). outcomeRead r room) (cut-behind sheetLines m s (omega (arith, h, longest-sheet)))
+cut-sheet s m room h = ap (λ (r : Reading). outcomeRead r room) (cut-behind sheetLines m s h)
 
-same-answer : (c : List ℕ) (m : ℕ) (f : Found) → 273 < m → checked c ≡ f → checkAnswer (take m c) f ≡ checkAnswer c f
+same-answer : (c : List ℕ) (m : ℕ) (f : Found) → longest certificateLines < m → checked c ≡ f → checkAnswer (take m c) f ≡ checkAnswer c f
 unfolding checkAnswer
 same-answer c m (Refused r) h e = refl
 same-answer c m Met h e =
     let i = passes-when-issued c .0 e in
     ap (λ (l : List ℕ). checkAnswer l Met) (take-all m c (omega (arith, h, sheet-length (i .sheet) (i .room) c (i .writes))))
 
-pub cut-certificate : (c : List ℕ) (m : ℕ) → 273 < m → checkAnswer (take m c) (checked (take m c)) ≡ checkAnswer c (checked c)
+pub cut-certificate : (c : List ℕ) (m : ℕ) → longest certificateLines < m → checkAnswer (take m c) (checked (take m c)) ≡ checkAnswer c (checked c)
 unfolding checked
 cut-certificate c m h =
-    ap (λ (r : Reading). checkAnswer (take m c) (checkedRead r)) (cut-behind certificateLines m c (omega (arith, h, longest-certificate)))
+    ap (λ (r : Reading). checkAnswer (take m c) (checkedRead r)) (cut-behind certificateLines m c h)
     ∙ same-answer c m (checked c) h refl
 
 -- The third demand, entire.
-held-of-numbers : (q : Sheet) (room : ℕ) (c : List ℕ) → outcomeOf q room ≡ written c → HoldsFinerWorkings c
-unfolding certificateValues
-held-of-numbers q room c e =
-    let h = numbers-written q room c .0 e in
-    let met = facts-are q room (h .0) in
-    let vs = certificateValues q in
-    let t = subst (TextOf certificateLines vs) (sym (h .1)) (certificate-text q (met .0)) in
-    record {
-      shown = vs;
-      read = reads-values certificateLines c vs .1 t;
-      held =
-          λ m one.
-          let coarse = finer-working-held {n = 1} {m = m} q (omega arith) one (met .0) (met .1) in
-          let here : Held m (figures 1 q) (q .allow) (q .fyb) (q .gm0) (worked m q) =
-          subst (λ (k : ℕ). Held k (figures 1 q) (q .allow) (q .fyb) (q .gm0) (worked k q)) (mul-one m) coarse in
-          subst (λ (x : Sheet). Held m (figuresShown vs) (x .allow) (x .fyb) (x .gm0) (worked m x)) (sym (sheet-back q (figureValues (figures 1 q))))
-          (subst (λ (p : Printed). Held m p (q .allow) (q .fyb) (q .gm0) (worked m q)) (sym (figures-back q (figures 1 q))) here);
-    }
+module _ (q : Sheet) where
+  held-by : Each (facts q) → HoldsFinerWorkings q (own-lines q) (certificateOf q)
+  unfolding certificateValues
+  held-by h =
+      let more = each-of-both (facts-on-numbers q) (Question11 1 q ∷ []) .0 h in
+      let sound = each-is-sound q .0 (more .0) in
+      let vs = certificateValues q in
+      record {
+        own-lines-first = own-lines-then q;
+        shown = vs;
+        read = reads-values certificateLines (certificateOf q) vs .1 (certificate-text q sound);
+        held =
+            λ m one.
+            let coarse = finer-working-held {n = 1} {m = m} q (omega arith) one sound (more .1 .0) in
+            let here : Held m (figures 1 q) (q .allow) (q .fyb) (q .gm0) (worked m q) =
+            subst (λ (k : ℕ). Held k (figures 1 q) (q .allow) (q .fyb) (q .gm0) (worked k q)) (mul-one m) coarse in
+            subst (λ (x : Sheet). Held m (figuresShown vs) (x .allow) (x .fyb) (x .gm0) (worked m q)) (sym (sheet-back q (figureValues (figures 1 q))))
+            (subst (λ (p : Printed). Held m p (q .allow) (q .fyb) (q .gm0) (worked m q)) (sym (figures-back q (figures 1 q))) here);
+      }
+
+  module _ (room : ℕ) where
+    -- of numbers that meet the questions, and of those that are written
+    held-for-numbers : (c : List ℕ) → Each (facts-of-writing room q) → c ≡ certificateOf q → HoldsFinerWorkings q (own-lines q) c
+    held-for-numbers c h e = subst (HoldsFinerWorkings q (own-lines q)) (sym e) (held-by (each-of-both (facts q) (Question12 room q ∷ []) .0 h .0))
+
+    -- and of the bytes s that show them
+    held-for-text : (s c : List ℕ) → Question1 s q → Each (facts-of-writing room q) → c ≡ certificateOf q → HoldsFinerWorkings q s c
+    held-for-text s c g h e = subst (λ (l : List ℕ). HoldsFinerWorkings q l c) (sym (g .text .text)) (held-for-numbers c h e)
 
 pub finer-workings-held : FinerWorkingsHeld
 finer-workings-held = record {
   of-text =
+      λ s q room g h. record {
+        certificate = certificateOf q;
+        written = sheet-written s room (certificateOf q) .1 (record { sheet = q; question1 = g; questions = h; text = refl });
+        holds = held-for-text q room s (certificateOf q) g h refl;
+      };
+  of-numbers =
+      λ q room h. record {
+        certificate = certificateOf q;
+        written = numbers-written q room (certificateOf q) .1 (h, refl);
+        holds = held-for-numbers q room (certificateOf q) h refl;
+      };
+  text-written =
       λ s room c e.
-      by-reading (readLines sheetLines s)
-      (λ vs g. held-of-numbers (sheetShown vs) room c (sym (right-sheet s room vs g) ∙ e))
-      (λ l g. absurd (written-not-refused (sym (bad-sheet s room l g) ∙ e)));
-  of-numbers = held-of-numbers;
+      let w = sheet-written s room c .0 e in
+      record { sheet = w .sheet; question1 = w .question1; questions = w .questions; holds = held-for-text (w .sheet) room s c (w .question1) (w .questions) (w .text) };
+  numbers-written = λ q room c e. let w = numbers-written q room c .0 e in (w .0, held-for-numbers q room c (w .0) (w .1));
 }

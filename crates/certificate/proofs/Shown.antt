@@ -6,9 +6,9 @@ use native.Mathlib.Omega.{arith}
 use lib.IntN.{ℤ, pos, natAbs}
 use lib.ListN.{length, getD, take, drop, take-append-drop}
 use lib.Seq.{take-all, drop-cons, length-take-le}
-use Rattle.pair.specs.SignedPairs.{integer}
+use Rattle.pair.specs.SignedPairs.{integer, plain}
 use Rattle.pair.specs.declared.signed.Integer.{Integer}
-use Rattle.pair.proofs.IntegerForms.{integer-size}
+use Rattle.pair.proofs.IntegerForms.{plain-means, integer-size}
 use Rattle.section.specs.declared.Sheet.{Sheet}
 use Rattle.section.specs.Sheets.{Question2, Sound}
 use Rattle.section.specs.Figures.{Printed, figures, FiguresBelow}
@@ -66,6 +66,13 @@ front-at (v ∷ vs) (suc k) (suc i) h = front-at vs k i (omega arith)
 pub front-shown : (vs : List ℤ) → sheetShown (take sheetLines vs) ≡ sheetShown vs
 unfolding sheetShown
 front-shown vs = same-numbers (numberAt (take sheetLines vs)) (numberAt vs) (λ i h. ap natAbs (front-at vs sheetLines i h))
+
+integers-plain : (vs : List ℤ) → integers (map plain vs) ≡ vs
+integers-plain [] = refl
+integers-plain (v ∷ vs) = λ i. plain-means v i ∷ integers-plain vs i
+
+pub integers-of : (vs : List ℤ) {xs : List Integer} → xs ≡ map plain vs → integers xs ≡ vs
+integers-of vs e = ap integers e ∙ integers-plain vs
 
 pub integers-front : (k : ℕ) (vs : List Integer) → integers (take k vs) ≡ take k (integers vs)
 integers-front zero vs = refl

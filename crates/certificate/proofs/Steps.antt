@@ -6,14 +6,15 @@ use mathlib.Core.List.{List, [], _∷_, _++_}
 use Rattle.section.specs.declared.Sheet.{Sheet}
 use Rattle.section.specs.declared.Figures.{Figures}
 use Rattle.section.specs.Figures.{figures, allowed}
-use Rattle.section.specs.Forms.{printedOf}
+use Rattle.section.specs.Forms.{figuresOf}
 use Rattle.section.proofs.PrintedFigures.{allowed-is-met, not-allowed-is-unmet}
 use Rattle.certificate.specs.declared.Refusal.{Refusal}
 use Rattle.certificate.specs.declared.Refusal.the-variants.{Allowance}
 use Rattle.certificate.specs.declared.Found.{Found}
 use Rattle.certificate.specs.declared.Found.the-variants.{Refused, Met}
-use Rattle.certificate.specs.declared.Verdict.the-variants.{Accepted}
-use Rattle.certificate.specs.Questions.{Asked, Judged, question2, question11, onNumbers, questions, from, _then_, firstOf, firstIn, firstRefusal, refused, judged, judgedOf, verdict}
+use Rattle.certificate.specs.declared.Verdict.{Verdict}
+use Rattle.certificate.specs.declared.Verdict.the-variants.{Refused as Turned, Accepted}
+use Rattle.certificate.specs.Questions.{Asked, question2, question11, onNumbers, questions, from, _then_, firstOf, firstIn, firstRefusal, judged, verdict, verdictOf}
 use Rattle.certificate.proofs.FirstNos.{met-when-all, refused-when-no}
 use Rattle.certificate.proofs.Ties.{tied11}
 
@@ -46,18 +47,18 @@ module _ (q : Sheet) where
   unfolding question11
   eleventh-unmet e = refused-when-no (question11 q) Allowance (inl (λ a. not-allowed-is-unmet 1 q .0 e (tied11 q .0 (a, tt)), refl))
 
-  pub within : {b : Bool} (f : Figures) → b ≡ allowed 1 q → b ≡ true → printedOf f ≡ figures 1 q → judgedOf (Accepted f) ≡ judged (firstOf (question11 q)) (figures 1 q)
-  unfolding judged judgedOf
-  within f e k p = rw (eleventh-met (sym e ∙ k), p)
+  pub within : {b : Bool} {f : Figures} → b ≡ allowed 1 q → b ≡ true → f ≡ figuresOf (figures 1 q) → Accepted f ≡ verdictOf (judged (firstOf (question11 q)) (figures 1 q))
+  unfolding judged verdictOf
+  within e k p = rw (eleventh-met (sym e ∙ k), p)
 
-  pub beyond : {b : Bool} → b ≡ allowed 1 q → b ≡ false → refused Allowance ≡ judged (firstOf (question11 q)) (figures 1 q)
-  unfolding judged
+  pub beyond : {b : Bool} → b ≡ allowed 1 q → b ≡ false → Turned Allowance ≡ verdictOf (judged (firstOf (question11 q)) (figures 1 q))
+  unfolding judged verdictOf
   beyond e k = rw (eleventh-unmet (sym e ∙ k))
 
-  pub refused-before : {f : Found} {r : Refusal} → f ≡ firstRefusal q → f ≡ Refused r → refused r ≡ verdict q
-  unfolding judged verdict questions firstRefusal
+  pub refused-before : {f : Found} {r : Refusal} → f ≡ firstRefusal q → f ≡ Refused r → Turned r ≡ verdictOf (verdict q)
+  unfolding judged verdict verdictOf questions firstRefusal
   refused-before e k = rw (in-turn (onNumbers q) (question11 q ∷ []), sym e ∙ k)
 
-  pub passed-before : {f : Found} {v : Judged} → f ≡ firstRefusal q → f ≡ Met → v ≡ judged (firstOf (question11 q)) (figures 1 q) → v ≡ verdict q
+  pub passed-before : {f : Found} {v : Verdict} → f ≡ firstRefusal q → f ≡ Met → v ≡ verdictOf (judged (firstOf (question11 q)) (figures 1 q)) → v ≡ verdictOf (verdict q)
   unfolding judged verdict questions firstRefusal firstIn
   passed-before e k l = rw (in-turn (onNumbers q) (question11 q ∷ []), sym e ∙ k, then-nothing (firstOf (question11 q))) l

@@ -12,9 +12,11 @@ use Rattle.certificate.specs.declared.Refusal.the-variants.{Allowance}
 use Rattle.certificate.specs.declared.Found.{Found}
 use Rattle.certificate.specs.declared.Found.the-variants.{Refused, Met}
 use Rattle.certificate.specs.Questions.{question11, onNumbers, questions, firstIn, firstRefusal, refused, accepted, judged, verdict}
-use Rattle.certificate.specs.Reasons.{Each, Reason, facts-on-numbers, facts}
-use Rattle.certificate.proofs.FirstNos.{each-when-met, met-when-each, reason-when-refused, refused-when-reason}
-use Rattle.certificate.proofs.Ties.{tied11, on-numbers-tied, questions-tied}
+use Rattle.certificate.specs.declared.Answer.{Answer}
+use Rattle.certificate.specs.Refusals.{told}
+use Rattle.certificate.specs.Reasons.{Each, Reason, facts-on-numbers, facts, lines-on-numbers, lines-of, Found-as, Judged-as}
+use Rattle.certificate.proofs.FirstNos.{each-when-met, met-when-each, refused-when-at, found-with-reason}
+use Rattle.certificate.proofs.Ties.{tied11, on-numbers-tied, questions-tied, on-numbers-told, questions-told}
 
 pub each-is-sound : (q : Sheet) → Each (facts-on-numbers q) ↔ Sound q
 each-is-sound q = (
@@ -32,17 +34,14 @@ each-of-both (P ∷ Ps) Qs =
 pub met-is-sound : (q : Sheet) → (firstRefusal q ≡ Met) ↔ Sound q
 unfolding firstRefusal
 met-is-sound q = (
-  λ e. each-is-sound q .0 (each-when-met 2 (onNumbers q) (facts-on-numbers q) (on-numbers-tied q) e),
-  λ s. met-when-each 2 (onNumbers q) (facts-on-numbers q) (on-numbers-tied q) (each-is-sound q .1 s),
+  λ e. each-is-sound q .0 (each-when-met (onNumbers q) (facts-on-numbers q) (on-numbers-tied q) e),
+  λ s. met-when-each (onNumbers q) (facts-on-numbers q) (on-numbers-tied q) (each-is-sound q .1 s),
 )
 
 -- and one refuses it exactly where there is a reason: the questions before are met, its own is not, its line is the first
-pub refused-with-reason : (q : Sheet) (r : Refusal) → (firstRefusal q ≡ Refused r) ↔ Reason (onNumbers q) (facts-on-numbers q) r
+pub refused-with-reason : (q : Sheet) (a : Answer) → Found-as (firstRefusal q) a ↔ Reason (lines-on-numbers q) (facts-on-numbers q) 0 a
 unfolding firstRefusal
-refused-with-reason q r = (
-  reason-when-refused (onNumbers q) (facts-on-numbers q) (on-numbers-tied q) r,
-  refused-when-reason (onNumbers q) (facts-on-numbers q) (on-numbers-tied q) r,
-)
+refused-with-reason q a = found-with-reason 0 (onNumbers q) (lines-on-numbers q) (facts-on-numbers q) (on-numbers-tied q) (on-numbers-told q 0) a
 
 pub judged-refused : (f : Found) (p : Printed) (r : Refusal) → (judged f p ≡ refused r) ↔ (f ≡ Refused r)
 unfolding judged
@@ -62,30 +61,28 @@ accepted-is-met q p =
     let t = questions-tied q in
     let split = each-of-both (facts-on-numbers q) (Question11 1 q ∷ []) in (
       λ e.
-          let h = split .0 (each-when-met 2 (questions q) (facts q) t (j .0 e .0)) in
+          let h = split .0 (each-when-met (questions q) (facts q) t (j .0 e .0)) in
           (each-is-sound q .0 (h .0), h .1 .0, j .0 e .1),
-      λ h. j .1 (met-when-each 2 (questions q) (facts q) t (split .1 (each-is-sound q .1 (h .0), (h .1, tt))), h .2),
+      λ h. j .1 (met-when-each (questions q) (facts q) t (split .1 (each-is-sound q .1 (h .0), (h .1, tt))), h .2),
     )
 
 -- and refused exactly where there is a reason
-pub verdict-with-reason : (q : Sheet) (r : Refusal) → (verdict q ≡ refused r) ↔ Reason (questions q) (facts q) r
+pub verdict-with-reason : (q : Sheet) (a : Answer) → Judged-as (verdict q) a ↔ Reason (lines-of q) (facts q) 0 a
 unfolding verdict
-verdict-with-reason q r =
-    let j = judged-refused (firstIn (questions q)) (figures 1 q) r in
-    let t = questions-tied q in
-    (λ e. reason-when-refused (questions q) (facts q) t r (j .0 e), λ h. j .1 (refused-when-reason (questions q) (facts q) t r h))
+verdict-with-reason q a =
+    let j = judged-refused (firstIn (questions q)) (figures 1 q) in
+    let r = found-with-reason 0 (questions q) (lines-of q) (facts q) (questions-tied q) (questions-told q 0) a in (
+      λ v. r .0 (record { refusal = v .refusal; found = j (v .refusal) .0 (v .judged); tells = v .tells }),
+      λ h. let f = r .1 h in record { refusal = f .refusal; judged = j (f .refusal) .1 (f .found); tells = f .tells },
+    )
 
 -- with 11 exactly where it meets questions 2 to 10, and the area's upper end passes the allowance
 pub beyond-the-allowance : (q : Sheet) → (verdict q ≡ refused Allowance) ↔ (Sound q × (Question11 1 q → ⊥))
-unfolding questions onNumbers question11
+unfolding verdict questions onNumbers question11
 beyond-the-allowance q =
-    let w = verdict-with-reason q Allowance in (
-      λ e. let h = w .0 e in (each-is-sound q .0 (h .before), h .unmet),
-      λ h.
-          w .1 (record {
-            on-numbers = omega arith;
-            before = each-is-sound q .1 (h .0);
-            unmet = h .1;
-            first = inl (λ a. h .1 (tied11 q .0 (a, tt)), refl);
-          }),
+    let j = judged-refused (firstIn (questions q)) (figures 1 q) Allowance in (
+      λ e.
+          let h = verdict-with-reason q (told Allowance) .0 (record { refusal = Allowance; judged = e; tells = refl }) in
+          (each-is-sound q .0 (h .before), h .unmet),
+      λ h. j .1 (refused-when-at 9 (questions q) (facts q) Allowance (questions-tied q) (each-is-sound q .1 (h .0)) (inl (λ a. h .1 (tied11 q .0 (a, tt)), refl))),
     )

@@ -2,19 +2,20 @@
 use Prim.Native.Nat.{ℕ, _≤_}
 use mathlib.Core.List.{List, [], _∷_, _++_}
 use mathlib.Core.Path.{_≡_}
-use lib.IntN.{ℤ}
+use lib.IntN.{ℤ, pos}
 use lib.ListN.{length, drop}
 use Rattle.section.specs.declared.Sheet.{Sheet}
+use Rattle.section.specs.Claims.{_≤?_, _is_}
 use Rattle.section.specs.Working.{worked}
 use Rattle.section.specs.Figures.{figures, Held}
 use Rattle.text.specs.Keys.{sheetLines, certificateLines}
-use Rattle.text.specs.Lines.{linesFrom, TextOf, FirstBad}
+use Rattle.text.specs.Lines.{linesFrom, linesText, TextOf, FirstBad}
 use Rattle.text.specs.Reading.{values, readLines}
-use Rattle.certificate.specs.declared.Refusal.{Refusal}
-use Rattle.certificate.specs.declared.Refusal.the-variants.{Spelling}
-use Rattle.certificate.specs.Reasons.{Each, Reason, facts}
-use Rattle.certificate.specs.Certificates.{sheetValues, figureValues, certificateOf, sheetShown, figuresShown}
-use Rattle.certificate.specs.Outcome.{writing, checking, written, outcome, outcomeOf}
+use Rattle.certificate.specs.declared.Answer.{Answer}
+use Rattle.certificate.specs.Refusals.{answer}
+use Rattle.certificate.specs.Reasons.{Each, facts, Lined, _at-line_, lines-of, Reason}
+use Rattle.certificate.specs.Certificates.{sheetValues, figureValues, certificateOf, valueAt, sheetShown, figuresShown}
+use Rattle.certificate.specs.Outcome.{written, outcome, outcomeOf}
 
 -- Are all lines there, spelt as the paper says, with nothing behind the last? They show the sheet q.
 pub record Question1 (s : List ℕ) (q : Sheet) : Type 0 where
@@ -35,6 +36,29 @@ facts-of-writing room q = facts q ++ (Question12 room q ∷ [])
 abbrev pub facts-of-checking : List ℤ → Sheet → List (Type 0)
 facts-of-checking vs q = facts q ++ (Unit ∷ Question13 vs q ∷ [])
 
+-- Writing: does the certificate fit the buffer? No: 12, line 0.
+unfoldable pub lines12 : ℕ → Sheet → List Lined
+lines12 room q = (length (certificateOf q) ≤? room at-line 0) ∷ []
+
+-- Checking: do lines 13 to 18 agree with the working? No: 13, first that differs.
+unfoldable pub lines13 : List ℤ → Sheet → List Lined
+lines13 vs q =
+    let p = figures 1 q in
+    (valueAt vs 12 is pos (p .area) at-line 13)
+    ∷ (valueAt vs 13 is pos (p .axial) at-line 14)
+    ∷ (valueAt vs 14 is pos (p .chi1) at-line 15)
+    ∷ (valueAt vs 15 is pos (p .chi2) at-line 16)
+    ∷ (valueAt vs 16 is p .shiftlo at-line 17)
+    ∷ (valueAt vs 17 is p .shifthi at-line 18)
+    ∷ []
+
+-- the claims of writing, and those of checking, which passes over the twelfth question, each with the line that the paper names for it
+unfoldable pub lines-of-writing : ℕ → Sheet → List (List Lined)
+lines-of-writing room q = lines-of q ++ (lines12 room q ∷ [])
+
+unfoldable pub lines-of-checking : List ℤ → Sheet → List (List Lined)
+lines-of-checking vs q = lines-of q ++ ([] ∷ lines13 vs q ∷ [])
+
 -- s shows a sheet that meets questions 2 to 12, and t is its certificate
 pub record Written (s : List ℕ) (room : ℕ) (t : List ℕ) : Type 0 where
   pub sheet : Sheet
@@ -42,29 +66,27 @@ pub record Written (s : List ℕ) (room : ℕ) (t : List ℕ) : Type 0 where
   pub questions : Each (facts-of-writing room sheet)
   pub text : t ≡ certificateOf sheet
 
--- t is the bytes of s, which show a sheet, and behind them the six lines of its working at our scale
-pub record OwnBytesFirst (s t : List ℕ) : Type 0 where
-  pub sheet : Sheet
-  pub question1 : Question1 s sheet
-  pub text : t ≡ s ++ linesFrom sheetLines (figureValues (figures 1 sheet))
-
--- of n lines, l is the first bad one, and r says so
-pub record Misspelt (n : ℕ) (s : List ℕ) (r : Refusal) : Type 0 where
+-- of n lines, one is the first that is bad, and a names it: 1, first bad or missing line
+pub record Misspelt (n : ℕ) (s : List ℕ) (a : Answer) : Type 0 where
   pub line : ℕ
   pub bad : FirstBad n s line
-  pub told : r ≡ Spelling line
+  pub told : a ≡ answer 1 line 0
+
+-- why numbers are refused with a
+abbrev pub NumbersUnmet : Sheet → ℕ → Answer → Type 0
+NumbersUnmet q room a = Reason (lines-of-writing room q) (facts-of-writing room q) (length (certificateOf q)) a
 
 -- s shows a sheet that is refused, with the reason
-pub record Unmet (s : List ℕ) (room : ℕ) (r : Refusal) : Type 0 where
+pub record Unmet (s : List ℕ) (room : ℕ) (a : Answer) : Type 0 where
   pub sheet : Sheet
   pub question1 : Question1 s sheet
-  pub reason : Reason (writing room sheet) (facts-of-writing room sheet) r
+  pub reason : NumbersUnmet sheet room a
 
 -- the same of a certificate whose lines have these values
-pub record Unlike (c : List ℕ) (r : Refusal) : Type 0 where
+pub record Unlike (c : List ℕ) (a : Answer) : Type 0 where
   pub shown : List ℤ
   pub text : TextOf certificateLines shown c
-  pub reason : Reason (checking shown (sheetShown shown)) (facts-of-checking shown (sheetShown shown)) r
+  pub reason : Reason (lines-of-checking shown (sheetShown shown)) (facts-of-checking shown (sheetShown shown)) 0 a
 
 -- some sheet, given room, is written as c
 pub record Issued (c : List ℕ) : Type 0 where
@@ -72,15 +94,36 @@ pub record Issued (c : List ℕ) : Type 0 where
   pub room : ℕ
   pub writes : outcome sheet room ≡ written c
 
--- The third demand, of a certificate c: its lines are read back from its text, and the section that the first twelve show, worked at m times
--- our scale, holds what its lines show, whatever m is.
-pub record HoldsFinerWorkings (c : List ℕ) : Type 0 where
+-- The third demand, of a sheet q whose own lines are the bytes s, and of c: c is these lines, and behind them the six of the working at our
+-- scale; its lines are read back from its bytes; and the section q, worked at m times our scale, holds what they show, whatever m is.
+pub record HoldsFinerWorkings (q : Sheet) (s c : List ℕ) : Type 0 where
+  pub own-lines-first : c ≡ s ++ linesFrom sheetLines (figureValues (figures 1 q))
   pub shown : List ℤ
   pub read : readLines certificateLines c ≡ values shown
   pub held : (m : ℕ) → 1 ≤ m
-      → Held m (figuresShown shown) ((sheetShown shown) .allow) ((sheetShown shown) .fyb) ((sheetShown shown) .gm0) (worked m (sheetShown shown))
+      → Held m (figuresShown shown) ((sheetShown shown) .allow) ((sheetShown shown) .fyb) ((sheetShown shown) .gm0) (worked m q)
 
--- and of all: whatever is written, for any bytes and for any twelve numbers, in any room
+-- a sheet's own lines, where it is given as numbers
+abbrev pub own-lines : Sheet → List ℕ
+own-lines q = linesText (sheetValues q)
+
+-- a certificate is written, and holds what it shows
+pub record WrittenAndHeld (q : Sheet) (s : List ℕ) (writes : List ℕ → Type 0) : Type 0 where
+  pub certificate : List ℕ
+  pub written : writes certificate
+  pub holds : HoldsFinerWorkings q s certificate
+
+-- c was written for a sheet that s shows and that meets the questions, and holds what it shows
+pub record HeldForItsSheet (s : List ℕ) (room : ℕ) (c : List ℕ) : Type 0 where
+  pub sheet : Sheet
+  pub question1 : Question1 s sheet
+  pub questions : Each (facts-of-writing room sheet)
+  pub holds : HoldsFinerWorkings sheet s c
+
+-- and of all: for every sheet that meets the questions of writing, as text or as numbers, in any room, a certificate is written and holds what it
+-- shows; and whatever is written is so for such a sheet
 pub record FinerWorkingsHeld : Type 0 where
-  pub of-text : (s : List ℕ) (room : ℕ) (c : List ℕ) → outcome s room ≡ written c → HoldsFinerWorkings c
-  pub of-numbers : (q : Sheet) (room : ℕ) (c : List ℕ) → outcomeOf q room ≡ written c → HoldsFinerWorkings c
+  pub of-text : (s : List ℕ) (q : Sheet) (room : ℕ) → Question1 s q → Each (facts-of-writing room q) → WrittenAndHeld q s (λ c. outcome s room ≡ written c)
+  pub of-numbers : (q : Sheet) (room : ℕ) → Each (facts-of-writing room q) → WrittenAndHeld q (own-lines q) (λ c. outcomeOf q room ≡ written c)
+  pub text-written : (s : List ℕ) (room : ℕ) (c : List ℕ) → outcome s room ≡ written c → HeldForItsSheet s room c
+  pub numbers-written : (q : Sheet) (room : ℕ) (c : List ℕ) → outcomeOf q room ≡ written c → Each (facts-of-writing room q) × HoldsFinerWorkings q (own-lines q) c

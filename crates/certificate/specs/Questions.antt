@@ -9,7 +9,7 @@ use Rattle.section.specs.declared.Span.{Span}
 use Rattle.section.specs.Claims.{Claim, _≤?_, _and_, _or_, test}
 use Rattle.section.specs.Sheets.{span-of, core-within, width, lip-length, depth, lip-long, lip-short, radius-core, radius-flange, mid-line-lip, form-z, lips-apart}
 use Rattle.section.specs.Figures.{Printed, figures, allowance}
-use Rattle.section.specs.Forms.{printedOf}
+use Rattle.section.specs.Forms.{figuresOf}
 use Rattle.certificate.specs.declared.Refusal.{Refusal}
 use Rattle.certificate.specs.declared.Refusal.the-variants.{Range, Thickness, FlangeWidth, LipLength, Depth, LipRatio, Radius, MidLineRatio, Form, Allowance}
 use Rattle.certificate.specs.declared.Found.{Found}
@@ -151,7 +151,7 @@ judged Met p = accepted p
 unfoldable pub verdict : Sheet → Judged
 verdict q = judged (firstIn (questions q)) (figures 1 q)
 
--- what the code's answer stands for
-unfoldable pub judgedOf : Verdict → Judged
-judgedOf (Turned r) = refused r
-judgedOf (Accepted f) = accepted (printedOf f)
+-- the same as the code returns it
+unfoldable pub verdictOf : Judged → Verdict
+verdictOf (refused r) = Turned r
+verdictOf (accepted p) = Accepted (figuresOf p)

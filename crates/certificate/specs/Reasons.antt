@@ -1,16 +1,22 @@
 -- What it says of a sheet that it meets the questions, or is refused by one. (Document 01, "The questions, in this order".)
 use Prim.Native.Nat.{ℕ, _-_, _≤_}
+use mathlib.Core.Bool.{cond}
 use mathlib.Core.List.{List, [], _∷_, _++_}
 use mathlib.Core.Path.{_≡_}
 use mathlib.Core.Logic.{_⊎_}
+use lib.Dec.{eqb}
 use lib.ListN.{take, getD}
 use Rattle.section.specs.declared.Sheet.{Sheet}
-use Rattle.section.specs.Claims.{Holds}
+use Rattle.section.specs.Claims.{Claim, _and_, _or_, Holds}
+use Rattle.section.specs.Sheets.{span-of, core-within, width, lip-length, depth, radius-core, radius-flange, mid-line-lip, form-z, lips-apart}
 use Rattle.section.specs.Sheets.{Question2, Question3, Question4, Question5, Question6, Question7, Question8, Question9, Question10}
-use Rattle.section.specs.Figures.{Question11}
+use Rattle.section.specs.Figures.{Question11, allowance}
+use Rattle.certificate.specs.declared.Answer.{Answer}
 use Rattle.certificate.specs.declared.Refusal.{Refusal}
+use Rattle.certificate.specs.declared.Found.{Found}
+use Rattle.certificate.specs.declared.Found.the-variants.{Refused}
 use Rattle.certificate.specs.Refusals.{told}
-use Rattle.certificate.specs.Questions.{Asked, _else_}
+use Rattle.certificate.specs.Questions.{inside, lip, Judged, refused}
 
 -- questions 2 to 10, and 2 to 11, as facts of a sheet
 abbrev pub facts-on-numbers : Sheet → List (Type 0)
@@ -25,24 +31,89 @@ abbrev pub Each : List (Type 0) → Type 0
 Each [] = Unit
 Each (P ∷ Ps) = P × Each Ps
 
--- all that a question asks is so
-abbrev pub All : List Asked → Type 0
-All [] = Unit
-All ((a else r) ∷ cs) = Holds a × All cs
+-- a claim, and the line that is told where it is not so
+infix 30 _at-line_
+pub data Lined : Type 0 where
+  _at-line_ : Claim → ℕ → Lined
 
--- r stands at the first claim that is not so
-abbrev pub FirstNo : List Asked → Refusal → Type 0
-FirstNo [] r = ⊥
-FirstNo ((a else r₀) ∷ cs) r = ((Holds a → ⊥) × (r₀ ≡ r)) ⊎ (Holds a × FirstNo cs r)
+-- The claims of the questions from the second to the tenth, each with the line that the paper names for it.
+unfoldable pub lines-on-numbers : Sheet → List (List Lined)
+lines-on-numbers q =
+    -- Is every value in range? No: 2, first such line.
+    ((inside (span-of .form) (q .form) at-line 1)
+    ∷ (inside (span-of .h) (q .h) at-line 2)
+    ∷ (inside (span-of .b1) (q .b1) at-line 3)
+    ∷ (inside (span-of .b2) (q .b2) at-line 4)
+    ∷ (inside (span-of .c) (q .c) at-line 5)
+    ∷ (inside (span-of .r) (q .r) at-line 6)
+    ∷ (inside (span-of .tnom) (q .tnom .0) at-line 7)
+    ∷ (inside (span-of .t) (q .t .0) at-line 8)
+    ∷ (inside (span-of .fyb) (q .fyb) at-line 9)
+    ∷ (inside (span-of .gm0) (q .gm0) at-line 10)
+    ∷ (inside (span-of .rounds) (q .rounds) at-line 11)
+    ∷ (inside (span-of .allow) (q .allow) at-line 12)
+    ∷ [])
+    -- t ≤ tnom? No: 3, line 8.
+    ∷ ((core-within (q .t .0) (q .tnom .0) at-line 8) ∷ [])
+    -- b ≤ 60t, flange 1 then 2? No: 4, line 3 or 4.
+    ∷ ((width (q .b1) (q .t .0) at-line 3) ∷ (width (q .b2) (q .t .0) at-line 4) ∷ [])
+    -- c ≤ 50t? No: 5, line 5.
+    ∷ ((lip-length (q .c) (q .t .0) at-line 5) ∷ [])
+    -- h ≤ 500t? No: 6, line 2.
+    ∷ ((depth (q .h) (q .t .0) at-line 2) ∷ [])
+    -- b ≤ 5c and 5c ≤ 3b, flange 1 then 2? No: 7, line 3 or 4.
+    ∷ ((lip (q .b1) (q .c) at-line 3) ∷ (lip (q .b2) (q .c) at-line 4) ∷ [])
+    -- r ≤ 5t and 10r ≤ bp1 and 10r ≤ bp2? No: 8, line 6.
+    ∷ ((radius-core (q .r) (q .t .0) and radius-flange (q .r) (q .b1) (q .tnom .0) and radius-flange (q .r) (q .b2) (q .tnom .0) at-line 6) ∷ [])
+    -- 5cp ≤ 3bp, flange 1 then 2? No: 9, line 3 or 4.
+    ∷ ((mid-line-lip (q .b1) (q .c) (q .tnom .0) at-line 3) ∷ (mid-line-lip (q .b2) (q .c) (q .tnom .0) at-line 4) ∷ [])
+    -- Form Z, or 2c ≤ h? No: 10, line 5.
+    ∷ ((form-z (q .form) or lips-apart (q .c) (q .h) at-line 5) ∷ [])
+    ∷ []
 
--- the place of a refusal's question among them, the paper's second being the first
-abbrev pub place : Refusal → ℕ
-place r = (told r) .refusal - 2
+-- Is the area's upper end at most area + allow? No: 11, line 12.
+unfoldable pub lines11 : Sheet → List Lined
+lines11 q = (allowance 1 q at-line 12) ∷ []
 
--- why r is the answer to these questions, which ask for these facts: those before the one that bears its number are met, that one is not,
--- and within it r, with its line, stands at the first "no"
-pub record Reason (qs : List (List Asked)) (Ps : List (Type 0)) (r : Refusal) : Type 0 where
-  pub on-numbers : 2 ≤ (told r) .refusal
-  pub before : Each (take (place r) Ps)
-  pub unmet : getD Ps (place r) Unit → ⊥
-  pub first : FirstNo (getD qs (place r) []) r
+-- the claims up to the eleventh
+unfoldable pub lines-of : Sheet → List (List Lined)
+lines-of q = lines-on-numbers q ++ (lines11 q ∷ [])
+
+-- the line stands at the first claim that is not so
+abbrev pub FirstNo : List Lined → ℕ → Type 0
+FirstNo [] line = ⊥
+FirstNo ((a at-line l) ∷ cs) line = ((Holds a → ⊥) × (l ≡ line)) ⊎ (Holds a × FirstNo cs line)
+
+-- the place of an answer's question among them, the paper's second being the first
+abbrev pub place : Answer → ℕ
+place a = a .refusal - 2
+
+-- the length that is told with a number: 0 except at 12, where it is the length needed
+abbrev pub length-told : ℕ → ℕ → ℕ
+length-told needed number = cond (eqb number 12) needed 0
+
+-- Why a is answered to questions that ask for the facts Ps, by the claims of ls: those before the one that bears its number are met, that one is
+-- not, its line stands at the first "no" within it, and the length is 0 but for the one needed.
+pub record Reason (ls : List (List Lined)) (Ps : List (Type 0)) (needed : ℕ) (a : Answer) : Type 0 where
+  pub on-numbers : 2 ≤ a .refusal
+  pub before : Each (take (place a) Ps)
+  pub unmet : getD Ps (place a) Unit → ⊥
+  pub first : FirstNo (getD ls (place a) []) (a .line)
+  pub size : a .length ≡ length-told needed (a .refusal)
+
+-- questions find a refusal that tells a
+pub record Found-as (f : Found) (a : Answer) : Type 0 where
+  pub refusal : Refusal
+  pub found : f ≡ Refused refusal
+  pub tells : told refusal ≡ a
+
+-- a sheet is judged by a refusal that tells a
+pub record Judged-as (j : Judged) (a : Answer) : Type 0 where
+  pub refusal : Refusal
+  pub judged : j ≡ refused refusal
+  pub tells : told refusal ≡ a
+
+-- a call answers a, and refuses
+pub record Refuses (answered a : Answer) : Type 0 where
+  pub is : answered ≡ a
+  pub number : 1 ≤ a .refusal

@@ -16,30 +16,32 @@ use text::reading;
 use text::writing;
 ghost use Prim.Native.Nat.{_≤_};
 ghost use mathlib.Core.Path.{_≡_};
-ghost use mathlib.Core.List.{_++_};
+ghost use mathlib.Core.List.{map};
 ghost use lib.ListN.{length, take, drop};
 ghost use lib.IntN.{pos};
-ghost use Rattle.pair.specs.SignedPairs.{integer};
+ghost use Rattle.pair.specs.SignedPairs.{integer, plain};
 ghost use Rattle.section.specs.Claims.{_is_, test};
-ghost use Rattle.section.specs.Forms.{printedOf};
+ghost use Rattle.section.specs.Figures.{figures};
+ghost use Rattle.section.specs.Forms.{figuresOf};
 ghost use Rattle.text.specs.Forms.{integers};
 ghost use Rattle.text.specs.Keys.{sheetLines, certificateLines};
 ghost use Rattle.text.specs.Lines.{linesText, longest};
 ghost use Rattle.text.specs.Reading.{values};
 ghost use Rattle.certificate.specs.Questions.{sheetOf, firstOf};
-ghost use Rattle.certificate.specs.Certificates.{sheetValues, figureValues, sheetShown};
+ghost use Rattle.certificate.specs.Certificates.{certificateValues, sheetShown};
 ghost use Rattle.certificate.specs.Outcome.{agreeing, fitted, outcomeOf, outcome, answerOf, bufferAfter, answerIn, bufferIn, checkedRead, checked, checkAnswer};
 
 // The value of a line that has no minus.
 fn number(size: u64) -> Integer
-    ensures { λ r. ⌜ integer r ≡ pos size ⌝ }
+    ensures { λ r. ⌜ r ≡ plain (pos size) ⌝ }
 {
     Integer { below: false, size }
 }
 
 // The values of a certificate's lines.
 fn line_values(q: Sheet, f: Figures) -> [Integer; CERTIFICATE_LINES]
-    ensures { λ r. ⌜ integers r ≡ sheetValues q ++ figureValues (printedOf f) ⌝ }
+    requires { ⌜ f ≡ figuresOf (figures 1 q) ⌝ }
+    ensures { λ r. ⌜ r ≡ map plain (certificateValues q) ⌝ }
 {
     let tnom = q.tnom;
     let t = q.t;

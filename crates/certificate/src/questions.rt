@@ -11,7 +11,7 @@ ghost use Prim.Native.Nat.{_≤_};
 ghost use Rattle.section.specs.Claims.{test};
 ghost use Rattle.section.specs.Sheets.{Question2, Sound};
 ghost use Rattle.section.specs.Figures.{figures};
-ghost use Rattle.certificate.specs.Questions.{inside, lip, ranges, ranged, question11, from, firstOf, First, firstRefusal, judged, judgedOf, verdict};
+ghost use Rattle.certificate.specs.Questions.{inside, lip, ranges, ranged, question11, from, firstOf, First, firstRefusal, judged, verdict, verdictOf};
 
 // The ranges of document 01, in the order of the lines.
 const RANGES: [Span; 12] = [
@@ -224,7 +224,7 @@ pub fn first_refusal(q: Sheet) -> Found
 // Question 11: whether the area's upper end is at most area + allow. If so, the figures.
 fn allowance(q: Sheet) -> Verdict
     requires { ⌜ Sound q ⌝ }
-    ensures { λ v. ⌜ judgedOf v ≡ judged (firstOf (question11 q)) (figures 1 q) ⌝ }
+    ensures { λ v. ⌜ v ≡ verdictOf (judged (firstOf (question11 q)) (figures 1 q)) ⌝ }
 {
     let w = sections::work(1, q);
     let figures = sections::figures_of(1, q, w);
@@ -237,7 +237,7 @@ fn allowance(q: Sheet) -> Verdict
 
 // The first of questions 2 to 11 that twelve numbers do not meet, or their figures.
 pub fn verdict_of(q: Sheet) -> Verdict
-    ensures { λ v. ⌜ judgedOf v ≡ verdict q ⌝ }
+    ensures { λ v. ⌜ v ≡ verdictOf (verdict q) ⌝ }
 {
     let found = first_refusal(q);
     match found {

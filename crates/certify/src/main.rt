@@ -1,17 +1,19 @@
-// Reads a sheet from standard input and prints its certificate, or the refusal's number and line.
-//
-// No more is read than the longest sheet and one byte: what stands behind does not change the answer
-// (`cut-sheet` in crates/certificate/proofs/Promises.antt). The buffer takes every certificate, so
-// that the twelfth question is always met (`room-enough` there).
-use certificate::certificates;
-use libc::STDIN_FILENO;
+// Reads a sheet from standard input and prints its certificate, or the refusal's number and line
+// (`certifyPrints` of crates/report/specs/Printed.antt).
+use report::printing;
+use report::streams;
+use report::streams::Input;
 use text::LONGEST_CERTIFICATE;
-use text::LONGEST_SHEET;
 
 fn main() {
-    let mut sheet = [0u8; LONGEST_SHEET + 1];
-    let n = io::read_full(STDIN_FILENO, &mut sheet);
-    let mut buffer = [0u8; LONGEST_CERTIFICATE];
-    let answer = certificates::write(&sheet[..n], &mut buffer);
-    report::written(answer, &buffer);
+    let mut sheet = streams::sheet_buffer();
+    let input = streams::read(&mut sheet);
+    match input {
+        Input::Failed => streams::unread(b"certify"),
+        Input::Bytes(n) => {
+            let mut out = [0u8; LONGEST_CERTIFICATE];
+            let length = printing::certify_prints(streams::first(&sheet, n), &mut out);
+            streams::print(b"certify", streams::first(&out, length));
+        }
+    }
 }

@@ -1,19 +1,19 @@
 -- Integers as the code holds them: a size, and whether it lies below zero.
 use mathlib.Core.Path.{_≡_, refl, sym, ap, _∙_}
 use mathlib.Core.Bool.{Bool, true, false, not, cond}
-use Prim.Native.Nat.{ℕ, zero, suc, _+_, _-_, _*_, _/_, _≤_, _<_}
-use native.Mathlib.Nat.{le-trans, le-of-eq, le-max-left, le-max-right, mul-le-mul-left, div-mul-le-self, zero-div}
+use Prim.Native.Nat.{ℕ, zero, suc, _+_, _-_, _*_, _/_, _^_, _≤_, _<_}
+use native.Mathlib.Nat.{le-trans, lt-of-le-of-lt, le-of-eq, le-max-left, le-max-right, mul-le-mul-left, div-mul-le-self, zero-div}
 use native.Mathlib.Omega.{arith}
 use borrow.Author.Tests.{le-ltb, lt-ltb, le-leb, lt-leb, eqb-true, eqb-false}
 use lib.Dec.{leb, eqb}
-use lib.IntN.{ℤ, pos, negℤ, subℕ, natAbs, negℤ-negℤ, negℤ-+ℤ, +ℤ-comm, _+ℤ_, _*ℤ_}
+use lib.IntN.{ℤ, pos, negsuc, negℤ, subℕ, natAbs, negℤ-negℤ, negℤ-+ℤ, +ℤ-comm, _+ℤ_, _*ℤ_}
 use Rattle.pair.specs.Rounding.{ceilDiv}
 use Rattle.pair.specs.Integers.{above, below, _≤ℤ_, lebℤ, least, greatest, floorOver, ceilOver}
-use Rattle.pair.specs.SignedPairs.{integer, meaning, reach}
+use Rattle.pair.specs.SignedPairs.{integer, plain, meaning, reach}
 use Rattle.pair.specs.declared.signed.Integer.{Integer}
 use Rattle.pair.specs.declared.signed.Signed.{Signed}
 use Rattle.pair.proofs.Tests.{by-test}
-use Rattle.pair.proofs.Quotients.{ceil-le, le-ceil, le-floor}
+use Rattle.pair.proofs.Quotients.{ceil-le, le-ceil, le-floor, floor-le-ceil}
 use Rattle.pair.proofs.IntegerParts.{sub-parts, neg-above, neg-below, plus-parts, times-parts}
 use Rattle.pair.proofs.IntegerLaws.{by-parts, neg-scaled, le-lebℤ, pos-le, neg-pos-le, least-first, least-second, greatest-first, greatest-second}
 use Rattle.pair.proofs.SignedBounds.{neg-size}
@@ -26,12 +26,40 @@ pub above-is : (z : Integer) → z .below ≡ false → integer z ≡ pos (z .si
 unfolding integer
 above-is z e = rw e
 
+-- the form in which an integer is returned stands for it, and a form whose zero is not below zero is that one
+pub plain-means : (x : ℤ) → integer (plain x) ≡ x
+unfolding integer plain
+plain-means (pos n) = refl
+plain-means (negsuc n) = refl
+
+plain-when : (below : Bool) (size : ℕ) → (below ≡ true → 0 < size) → record { below = below; size = size } ≡ plain (cond below (negℤ (pos size)) (pos size))
+unfolding plain
+plain-when false size h = refl
+plain-when true zero h = absurd (omega (arith, h refl))
+plain-when true (suc n) h = refl
+
+pub plain-is : (z : Integer) → (z .below ≡ true → 0 < z .size) → z ≡ plain (integer z)
+unfolding integer
+plain-is z h = plain-when (z .below) (z .size) h
+
+pub plain-above : (z : Integer) → z .below ≡ false → z ≡ plain (pos (z .size))
+unfolding plain
+plain-above z e = λ i. record { below = e i; size = z .size }
+
+pub plain-zero : (t : Bool) {n : ℕ} → n ≡ 0 → record { below = false; size = n } ≡ plain (integer (record { below = t; size = n }))
+unfolding integer plain
+plain-zero true e = rw e
+plain-zero false e = refl
+
+pub means : {z : Integer} {x : ℤ} → z ≡ plain x → integer z ≡ x
+means {z} {x} e = ap integer e ∙ plain-means x
+
 pub integer-size : (z : Integer) → natAbs (integer z) ≡ z .size
 unfolding integer
 integer-size z = by-test (z .below) (λ t. natAbs (cond t (negℤ (pos (z .size))) (pos (z .size))) ≡ z .size) (λ e. neg-size (pos (z .size))) (λ e. refl)
 
-pub negated-size : (y z : Integer) → integer y ≡ negℤ (integer z) → y .size ≡ z .size
-negated-size y z e = sym (integer-size y) ∙ ap natAbs e ∙ neg-size (integer z) ∙ integer-size z
+pub negated-size : (z : Integer) {y : Integer} → y ≡ plain (negℤ (integer z)) → y .size ≡ z .size
+negated-size z {y} e = sym (integer-size y) ∙ ap natAbs (means e) ∙ neg-size (integer z) ∙ integer-size z
 
 pub low-reach : (a : Signed) → a .lo .size ≤ reach (meaning a)
 unfolding meaning reach
@@ -101,6 +129,9 @@ neg-times x n =
 
 up-zero : {d : ℕ} → 0 < d → ceilDiv 0 d ≡ 0
 up-zero {d} d⁺ = omega (arith, ceil-le {n = 0} {x = 0} d⁺ (omega arith))
+
+pub floor-word : (n : ℕ) {d : ℕ} → (0 < d) × (ceilDiv n d < 2 ^ 64) → (0 < d) × (n / d < 2 ^ 64)
+floor-word n h = (h .0, lt-of-le-of-lt (floor-le-ceil n (h .0)) (h .1))
 
 floor-neg : (n : ℕ) {d : ℕ} → 0 < d → floorOver (negℤ (pos n)) d ≡ negℤ (pos (ceilDiv n d))
 unfolding floorOver

@@ -7,15 +7,24 @@ use native.Mathlib.Omega.{arith}
 use lib.IntN.{ℤ, pos, _*ℤ_}
 use Rattle.pair.specs.Rounding.{ceilDiv}
 use Rattle.pair.specs.Integers.{_≤ℤ_, least, greatest, floorOver, ceilOver}
-use Rattle.pair.specs.SignedPairs.{SignedPair, _upto_, integer, meaning, signed, leastProduct, greatestProduct, signedTimes, signedOver, reach}
+use Rattle.pair.specs.SignedPairs.{SignedPair, _upto_, integer, meaning, plainPair, signed, leastProduct, greatestProduct, signedTimes, signedOver, reach}
 use Rattle.pair.specs.declared.Pair.{Pair}
 use Rattle.pair.specs.declared.signed.Integer.{Integer}
 use Rattle.pair.specs.declared.signed.Signed.{Signed}
 use Rattle.pair.proofs.Quotients.{ceil-le, le-ceil}
 use Rattle.pair.proofs.IntegerLaws.{le-transℤ, scaled-le, least-left, least-right, greatest-left, greatest-right, le-least, greatest-le, least-first, greatest-second}
 use Rattle.pair.proofs.IntegerRounding.{floor-least, ceil-greatest}
-use Rattle.pair.proofs.IntegerForms.{times-least, times-greatest, over-least, over-greatest}
+use Rattle.pair.proofs.IntegerForms.{plain-means, times-least, times-greatest, over-least, over-greatest}
 use Rattle.pair.proofs.SignedBounds.{PlusRoom, TimesRoom, OverRoom}
+
+-- the form in which a signed pair is returned stands for it
+
+pub plain-pair-means : (a : SignedPair) → meaning (plainPair a) ≡ a
+unfolding meaning plainPair
+plain-pair-means a = λ i. record { lo = plain-means (a .lo) i; hi = plain-means (a .hi) i }
+
+pub pair-means : {r : Signed} {a : SignedPair} → r ≡ plainPair a → meaning r ≡ a
+pair-means {a = a} e = ap meaning e ∙ plain-pair-means a
 
 -- the ends of what the code's form stands for
 

@@ -1,6 +1,7 @@
 // Integers and pairs of them, for what may lie below zero. A size may need all 64 bits, so an
 // integer is its size and whether it is below zero; `integer` and `meaning` of specs/SignedPairs
-// say what stands for what.
+// say what stands for what. An operand may be a zero below zero; what is returned is the one form
+// that `plain` and `plainPair` name, in which zero is not below zero.
 use crate::Pair;
 use crate::wide;
 ghost use mathlib.Core.Path.{_≡_};
@@ -9,7 +10,7 @@ ghost use Prim.Native.Nat.{_+_, _*_, _^_, _<_};
 ghost use lib.IntN.{pos, subℕ, negℤ, _+ℤ_, _*ℤ_};
 ghost use Rattle.pair.specs.Rounding.{ceilDiv};
 ghost use Rattle.pair.specs.Integers.{lebℤ, least, greatest, floorOver, ceilOver};
-ghost use Rattle.pair.specs.SignedPairs.{integer, meaning, signed, difference, signedPlus, signedMinus, signedTimes, signedOver, coarser};
+ghost use Rattle.pair.specs.SignedPairs.{integer, plain, meaning, plainPair, signed, difference, signedPlus, signedMinus, signedTimes, signedOver, coarser};
 ghost use Rattle.pair.specs.Fits.{signedPlusFits, signedTimesFits, signedOverFits};
 
 pub struct Integer {
@@ -24,9 +25,20 @@ pub struct Signed {
 }
 
 impl Integer {
+    // The one form of an integer: zero is not below zero.
+    fn of(below: bool, size: u64) -> Self
+        ensures { λ r. ⌜ r ≡ plain (integer (record { below = below; size = size })) ⌝ }
+    {
+        if 0 < size {
+            Integer { below, size }
+        } else {
+            Integer { below: false, size }
+        }
+    }
+
     // a - b.
     pub fn difference(a: u64, b: u64) -> Self
-        ensures { λ r. ⌜ integer r ≡ subℕ a b ⌝ }
+        ensures { λ r. ⌜ r ≡ plain (subℕ a b) ⌝ }
     {
         if b <= a {
             Integer {
@@ -42,26 +54,20 @@ impl Integer {
     }
 
     pub fn negated(self) -> Self
-        ensures { λ r. ⌜ integer r ≡ negℤ (integer self) ⌝ }
+        ensures { λ r. ⌜ r ≡ plain (negℤ (integer self)) ⌝ }
     {
-        Integer {
-            below: !self.below,
-            size: self.size,
-        }
+        Integer::of(!self.below, self.size)
     }
 
     pub fn plus(self, b: Integer) -> Self
         requires { ⌜ self .size + b .size < 2 ^ 64 ⌝ }
-        ensures { λ r. ⌜ integer r ≡ integer self +ℤ integer b ⌝ }
+        ensures { λ r. ⌜ r ≡ plain (integer self +ℤ integer b) ⌝ }
     {
         let first = self.below;
         let second = b.below;
         if first {
             if second {
-                return Integer {
-                    below: true,
-                    size: self.size + b.size,
-                };
+                return Integer::of(true, self.size + b.size);
             }
             return Integer::difference(b.size, self.size);
         }
@@ -95,28 +101,33 @@ impl Integer {
     }
 
     pub fn least(self, b: Integer) -> Self
-        ensures { λ r. ⌜ integer r ≡ least (integer self) (integer b) ⌝ }
+        ensures { λ r. ⌜ r ≡ plain (least (integer self) (integer b)) ⌝ }
     {
-        if self.at_most(b) { self } else { b }
+        if self.at_most(b) {
+            Integer::of(self.below, self.size)
+        } else {
+            Integer::of(b.below, b.size)
+        }
     }
 
     pub fn greatest(self, b: Integer) -> Self
-        ensures { λ r. ⌜ integer r ≡ greatest (integer self) (integer b) ⌝ }
+        ensures { λ r. ⌜ r ≡ plain (greatest (integer self) (integer b)) ⌝ }
     {
-        if self.at_most(b) { b } else { self }
+        if self.at_most(b) {
+            Integer::of(b.below, b.size)
+        } else {
+            Integer::of(self.below, self.size)
+        }
     }
 
     // self * x / d rounded toward minus infinity.
     pub fn floor_by(self, x: u64, d: u64) -> Self
         requires { ⌜ (0 < d) × (ceilDiv (self .size * x) d < 2 ^ 64) ⌝ }
-        ensures { λ r. ⌜ integer r ≡ floorOver (integer self *ℤ pos x) d ⌝ }
+        ensures { λ r. ⌜ r ≡ plain (floorOver (integer self *ℤ pos x) d) ⌝ }
     {
         let below = self.below;
         if below {
-            Integer {
-                below: true,
-                size: wide::ceil_of(self.size, x, d),
-            }
+            Integer::of(true, wide::ceil_of(self.size, x, d))
         } else {
             Integer {
                 below: false,
@@ -128,14 +139,11 @@ impl Integer {
     // self * x / d rounded toward plus infinity.
     pub fn ceil_by(self, x: u64, d: u64) -> Self
         requires { ⌜ (0 < d) × (ceilDiv (self .size * x) d < 2 ^ 64) ⌝ }
-        ensures { λ r. ⌜ integer r ≡ ceilOver (integer self *ℤ pos x) d ⌝ }
+        ensures { λ r. ⌜ r ≡ plain (ceilOver (integer self *ℤ pos x) d) ⌝ }
     {
         let below = self.below;
         if below {
-            Integer {
-                below: true,
-                size: wide::floor_of(self.size, x, d),
-            }
+            Integer::of(true, wide::floor_of(self.size, x, d))
         } else {
             Integer {
                 below: false,
@@ -147,7 +155,7 @@ impl Integer {
     // self * b / d rounded toward minus infinity.
     pub fn floor_product(self, b: Integer, d: u64) -> Self
         requires { ⌜ (0 < d) × (ceilDiv (self .size * b .size) d < 2 ^ 64) ⌝ }
-        ensures { λ r. ⌜ integer r ≡ floorOver (integer self *ℤ integer b) d ⌝ }
+        ensures { λ r. ⌜ r ≡ plain (floorOver (integer self *ℤ integer b) d) ⌝ }
     {
         let below = b.below;
         if below {
@@ -160,7 +168,7 @@ impl Integer {
     // self * b / d rounded toward plus infinity.
     pub fn ceil_product(self, b: Integer, d: u64) -> Self
         requires { ⌜ (0 < d) × (ceilDiv (self .size * b .size) d < 2 ^ 64) ⌝ }
-        ensures { λ r. ⌜ integer r ≡ ceilOver (integer self *ℤ integer b) d ⌝ }
+        ensures { λ r. ⌜ r ≡ plain (ceilOver (integer self *ℤ integer b) d) ⌝ }
     {
         let below = b.below;
         if below {
@@ -174,7 +182,7 @@ impl Integer {
 // The least product of an end of a and an end of b, over s, rounded toward minus infinity.
 fn least_product(a: Signed, b: Signed, s: u64) -> Integer
     requires { ⌜ signedTimesFits s (meaning a) (meaning b) ≡ true ⌝ }
-    ensures { λ r. ⌜ integer r ≡ signedTimes s (meaning a) (meaning b) .lo ⌝ }
+    ensures { λ r. ⌜ r ≡ plain (signedTimes s (meaning a) (meaning b) .lo) ⌝ }
 {
     let p = a.lo;
     let q = a.hi;
@@ -188,7 +196,7 @@ fn least_product(a: Signed, b: Signed, s: u64) -> Integer
 // The greatest product of an end of a and an end of b, over s, rounded toward plus infinity.
 fn greatest_product(a: Signed, b: Signed, s: u64) -> Integer
     requires { ⌜ signedTimesFits s (meaning a) (meaning b) ≡ true ⌝ }
-    ensures { λ r. ⌜ integer r ≡ signedTimes s (meaning a) (meaning b) .hi ⌝ }
+    ensures { λ r. ⌜ r ≡ plain (signedTimes s (meaning a) (meaning b) .hi) ⌝ }
 {
     let p = a.lo;
     let q = a.hi;
@@ -201,7 +209,7 @@ fn greatest_product(a: Signed, b: Signed, s: u64) -> Integer
 
 impl Signed {
     pub fn of(p: Pair) -> Self
-        ensures { λ r. ⌜ meaning r ≡ signed p ⌝ }
+        ensures { λ r. ⌜ r ≡ plainPair (signed p) ⌝ }
     {
         Signed {
             lo: Integer {
@@ -217,7 +225,7 @@ impl Signed {
 
     // p - q.
     pub fn between(p: Pair, q: Pair) -> Self
-        ensures { λ r. ⌜ meaning r ≡ difference p q ⌝ }
+        ensures { λ r. ⌜ r ≡ plainPair (difference p q) ⌝ }
     {
         Signed {
             lo: Integer::difference(p.lo, q.hi),
@@ -227,7 +235,7 @@ impl Signed {
 
     pub fn plus(self, b: Signed) -> Self
         requires { ⌜ signedPlusFits (meaning self) (meaning b) ≡ true ⌝ }
-        ensures { λ r. ⌜ meaning r ≡ signedPlus (meaning self) (meaning b) ⌝ }
+        ensures { λ r. ⌜ r ≡ plainPair (signedPlus (meaning self) (meaning b)) ⌝ }
     {
         let p = self.lo;
         let q = self.hi;
@@ -239,7 +247,7 @@ impl Signed {
 
     pub fn minus(self, b: Signed) -> Self
         requires { ⌜ signedPlusFits (meaning self) (meaning b) ≡ true ⌝ }
-        ensures { λ r. ⌜ meaning r ≡ signedMinus (meaning self) (meaning b) ⌝ }
+        ensures { λ r. ⌜ r ≡ plainPair (signedMinus (meaning self) (meaning b)) ⌝ }
     {
         let p = self.lo;
         let q = self.hi;
@@ -254,7 +262,7 @@ impl Signed {
     // By a pair, none of which is below zero: an end below zero takes the pair's other end.
     pub fn times(self, p: Pair, s: u64) -> Self
         requires { ⌜ signedTimesFits s (meaning self) (signed p) ≡ true ⌝ }
-        ensures { λ r. ⌜ meaning r ≡ signedTimes s (meaning self) (signed p) ⌝ }
+        ensures { λ r. ⌜ r ≡ plainPair (signedTimes s (meaning self) (signed p)) ⌝ }
     {
         let a = self.lo;
         let b = self.hi;
@@ -266,7 +274,7 @@ impl Signed {
 
     pub fn times_signed(self, b: Signed, s: u64) -> Self
         requires { ⌜ signedTimesFits s (meaning self) (meaning b) ≡ true ⌝ }
-        ensures { λ r. ⌜ meaning r ≡ signedTimes s (meaning self) (meaning b) ⌝ }
+        ensures { λ r. ⌜ r ≡ plainPair (signedTimes s (meaning self) (meaning b)) ⌝ }
     {
         Signed {
             lo: least_product(self, b, s),
@@ -276,7 +284,7 @@ impl Signed {
 
     pub fn over(self, q: Pair, s: u64) -> Self
         requires { ⌜ signedOverFits s (meaning self) q ≡ true ⌝ }
-        ensures { λ r. ⌜ meaning r ≡ signedOver s (meaning self) q ⌝ }
+        ensures { λ r. ⌜ r ≡ plainPair (signedOver s (meaning self) q) ⌝ }
     {
         let a = self.lo;
         let b = self.hi;
@@ -289,7 +297,7 @@ impl Signed {
     // In a unit k times as large.
     pub fn coarser(self, k: u64) -> Self
         requires { ⌜ 0 < k ⌝ }
-        ensures { λ r. ⌜ meaning r ≡ coarser k (meaning self) ⌝ }
+        ensures { λ r. ⌜ r ≡ plainPair (coarser k (meaning self)) ⌝ }
     {
         let a = self.lo;
         let b = self.hi;

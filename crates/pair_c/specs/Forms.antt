@@ -1,11 +1,19 @@
--- What C's forms stand for: an integer, and a signed pair.
+-- C's forms as those of crate pair, and what they stand for: an integer, and a signed pair.
 use lib.IntN.{ℤ}
 use Rattle.pair.specs.SignedPairs.{SignedPair, integer, meaning}
+use Rattle.pair.specs.declared.signed.Integer.{Integer}
+use Rattle.pair.specs.declared.signed.Signed.{Signed}
 use Rattle.pair_c.specs.declared.signed.SignedEnd.{SignedEnd}
 use Rattle.pair_c.specs.declared.signed.SignedEnds.{SignedEnds}
 
+abbrev pub form : SignedEnd → Integer
+form e = record { below = e .below; size = e .size }
+
+abbrev pub forms : SignedEnds → Signed
+forms a = record { lo = form (a .lo); hi = form (a .hi) }
+
 abbrev pub end : SignedEnd → ℤ
-end e = integer (record { below = e .below; size = e .size })
+end e = integer (form e)
 
 abbrev pub ends : SignedEnds → SignedPair
-ends a = meaning (record { lo = record { below = a .lo .below; size = a .lo .size }; hi = record { below = a .hi .below; size = a .hi .size } })
+ends a = meaning (forms a)

@@ -1,4 +1,5 @@
-// The operations on integers and signed pairs as C functions.
+// The operations on integers and signed pairs as C functions. What they return is the one form of
+// crate pair, in which zero is not below zero.
 use pair::Pair;
 use pair::signed::Integer;
 use pair::signed::Signed;
@@ -9,9 +10,9 @@ ghost use lib.IntN.{pos, subℕ, negℤ, _+ℤ_, _*ℤ_};
 ghost use Rattle.pair.specs.Rounding.{ceilDiv};
 ghost use Rattle.pair.specs.Pairs.{_to_};
 ghost use Rattle.pair.specs.Integers.{lebℤ, least, greatest, floorOver, ceilOver};
-ghost use Rattle.pair.specs.SignedPairs.{signed, difference, signedPlus, signedMinus, signedTimes, signedOver, coarser};
+ghost use Rattle.pair.specs.SignedPairs.{plain, plainPair, signed, difference, signedPlus, signedMinus, signedTimes, signedOver, coarser};
 ghost use Rattle.pair.specs.Fits.{signedPlusFits, signedTimesFits, signedOverFits};
-ghost use Rattle.pair_c.specs.Forms.{end, ends};
+ghost use Rattle.pair_c.specs.Forms.{form, forms, end, ends};
 
 // An integer, as C has it: its size and whether it lies below zero.
 #[repr(C)]
@@ -29,7 +30,7 @@ pub struct SignedEnds {
 
 #[no_mangle]
 pub extern "C" fn pair_difference(a: u64, b: u64) -> SignedEnd
-    ensures { λ r. ⌜ end r ≡ subℕ a b ⌝ }
+    ensures { λ r. ⌜ form r ≡ plain (subℕ a b) ⌝ }
 {
     let r = Integer::difference(a, b);
     SignedEnd {
@@ -40,7 +41,7 @@ pub extern "C" fn pair_difference(a: u64, b: u64) -> SignedEnd
 
 #[no_mangle]
 pub extern "C" fn pair_negated(a: SignedEnd) -> SignedEnd
-    ensures { λ r. ⌜ end r ≡ negℤ (end a) ⌝ }
+    ensures { λ r. ⌜ form r ≡ plain (negℤ (end a)) ⌝ }
 {
     let p = Integer {
         below: a.below,
@@ -56,7 +57,7 @@ pub extern "C" fn pair_negated(a: SignedEnd) -> SignedEnd
 #[no_mangle]
 pub extern "C" fn pair_sum(a: SignedEnd, b: SignedEnd) -> SignedEnd
     requires { ⌜ a .size + b .size < 2 ^ 64 ⌝ }
-    ensures { λ r. ⌜ end r ≡ end a +ℤ end b ⌝ }
+    ensures { λ r. ⌜ form r ≡ plain (end a +ℤ end b) ⌝ }
 {
     let p = Integer {
         below: a.below,
@@ -90,7 +91,7 @@ pub extern "C" fn pair_at_most(a: SignedEnd, b: SignedEnd) -> bool
 
 #[no_mangle]
 pub extern "C" fn pair_least(a: SignedEnd, b: SignedEnd) -> SignedEnd
-    ensures { λ r. ⌜ end r ≡ least (end a) (end b) ⌝ }
+    ensures { λ r. ⌜ form r ≡ plain (least (end a) (end b)) ⌝ }
 {
     let p = Integer {
         below: a.below,
@@ -109,7 +110,7 @@ pub extern "C" fn pair_least(a: SignedEnd, b: SignedEnd) -> SignedEnd
 
 #[no_mangle]
 pub extern "C" fn pair_greatest(a: SignedEnd, b: SignedEnd) -> SignedEnd
-    ensures { λ r. ⌜ end r ≡ greatest (end a) (end b) ⌝ }
+    ensures { λ r. ⌜ form r ≡ plain (greatest (end a) (end b)) ⌝ }
 {
     let p = Integer {
         below: a.below,
@@ -129,7 +130,7 @@ pub extern "C" fn pair_greatest(a: SignedEnd, b: SignedEnd) -> SignedEnd
 #[no_mangle]
 pub extern "C" fn pair_floor_by(a: SignedEnd, x: u64, d: u64) -> SignedEnd
     requires { ⌜ (0 < d) × (ceilDiv (a .size * x) d < 2 ^ 64) ⌝ }
-    ensures { λ r. ⌜ end r ≡ floorOver (end a *ℤ pos x) d ⌝ }
+    ensures { λ r. ⌜ form r ≡ plain (floorOver (end a *ℤ pos x) d) ⌝ }
 {
     let p = Integer {
         below: a.below,
@@ -145,7 +146,7 @@ pub extern "C" fn pair_floor_by(a: SignedEnd, x: u64, d: u64) -> SignedEnd
 #[no_mangle]
 pub extern "C" fn pair_ceil_by(a: SignedEnd, x: u64, d: u64) -> SignedEnd
     requires { ⌜ (0 < d) × (ceilDiv (a .size * x) d < 2 ^ 64) ⌝ }
-    ensures { λ r. ⌜ end r ≡ ceilOver (end a *ℤ pos x) d ⌝ }
+    ensures { λ r. ⌜ form r ≡ plain (ceilOver (end a *ℤ pos x) d) ⌝ }
 {
     let p = Integer {
         below: a.below,
@@ -161,7 +162,7 @@ pub extern "C" fn pair_ceil_by(a: SignedEnd, x: u64, d: u64) -> SignedEnd
 #[no_mangle]
 pub extern "C" fn pair_floor_product(a: SignedEnd, b: SignedEnd, d: u64) -> SignedEnd
     requires { ⌜ (0 < d) × (ceilDiv (a .size * b .size) d < 2 ^ 64) ⌝ }
-    ensures { λ r. ⌜ end r ≡ floorOver (end a *ℤ end b) d ⌝ }
+    ensures { λ r. ⌜ form r ≡ plain (floorOver (end a *ℤ end b) d) ⌝ }
 {
     let p = Integer {
         below: a.below,
@@ -181,7 +182,7 @@ pub extern "C" fn pair_floor_product(a: SignedEnd, b: SignedEnd, d: u64) -> Sign
 #[no_mangle]
 pub extern "C" fn pair_ceil_product(a: SignedEnd, b: SignedEnd, d: u64) -> SignedEnd
     requires { ⌜ (0 < d) × (ceilDiv (a .size * b .size) d < 2 ^ 64) ⌝ }
-    ensures { λ r. ⌜ end r ≡ ceilOver (end a *ℤ end b) d ⌝ }
+    ensures { λ r. ⌜ form r ≡ plain (ceilOver (end a *ℤ end b) d) ⌝ }
 {
     let p = Integer {
         below: a.below,
@@ -200,7 +201,7 @@ pub extern "C" fn pair_ceil_product(a: SignedEnd, b: SignedEnd, d: u64) -> Signe
 
 #[no_mangle]
 pub extern "C" fn pair_signed(lo: u64, hi: u64) -> SignedEnds
-    ensures { λ r. ⌜ ends r ≡ signed (lo to hi) ⌝ }
+    ensures { λ r. ⌜ forms r ≡ plainPair (signed (lo to hi)) ⌝ }
 {
     let p = Pair { lo: lo, hi: hi };
     let r = Signed::of(p);
@@ -218,7 +219,7 @@ pub extern "C" fn pair_signed(lo: u64, hi: u64) -> SignedEnds
 
 #[no_mangle]
 pub extern "C" fn pair_between(lo: u64, hi: u64, least: u64, most: u64) -> SignedEnds
-    ensures { λ r. ⌜ ends r ≡ difference (lo to hi) (least to most) ⌝ }
+    ensures { λ r. ⌜ forms r ≡ plainPair (difference (lo to hi) (least to most)) ⌝ }
 {
     let p = Pair { lo: lo, hi: hi };
     let q = Pair {
@@ -241,7 +242,7 @@ pub extern "C" fn pair_between(lo: u64, hi: u64, least: u64, most: u64) -> Signe
 #[no_mangle]
 pub extern "C" fn pair_signed_plus(a: SignedEnds, b: SignedEnds) -> SignedEnds
     requires { ⌜ signedPlusFits (ends a) (ends b) ≡ true ⌝ }
-    ensures { λ r. ⌜ ends r ≡ signedPlus (ends a) (ends b) ⌝ }
+    ensures { λ r. ⌜ forms r ≡ plainPair (signedPlus (ends a) (ends b)) ⌝ }
 {
     let p = Signed {
         lo: Integer {
@@ -279,7 +280,7 @@ pub extern "C" fn pair_signed_plus(a: SignedEnds, b: SignedEnds) -> SignedEnds
 #[no_mangle]
 pub extern "C" fn pair_signed_minus(a: SignedEnds, b: SignedEnds) -> SignedEnds
     requires { ⌜ signedPlusFits (ends a) (ends b) ≡ true ⌝ }
-    ensures { λ r. ⌜ ends r ≡ signedMinus (ends a) (ends b) ⌝ }
+    ensures { λ r. ⌜ forms r ≡ plainPair (signedMinus (ends a) (ends b)) ⌝ }
 {
     let p = Signed {
         lo: Integer {
@@ -317,7 +318,7 @@ pub extern "C" fn pair_signed_minus(a: SignedEnds, b: SignedEnds) -> SignedEnds
 #[no_mangle]
 pub extern "C" fn pair_signed_times(a: SignedEnds, lo: u64, hi: u64, s: u64) -> SignedEnds
     requires { ⌜ signedTimesFits s (ends a) (signed (lo to hi)) ≡ true ⌝ }
-    ensures { λ r. ⌜ ends r ≡ signedTimes s (ends a) (signed (lo to hi)) ⌝ }
+    ensures { λ r. ⌜ forms r ≡ plainPair (signedTimes s (ends a) (signed (lo to hi))) ⌝ }
 {
     let p = Signed {
         lo: Integer {
@@ -346,7 +347,7 @@ pub extern "C" fn pair_signed_times(a: SignedEnds, lo: u64, hi: u64, s: u64) -> 
 #[no_mangle]
 pub extern "C" fn pair_times_signed(a: SignedEnds, b: SignedEnds, s: u64) -> SignedEnds
     requires { ⌜ signedTimesFits s (ends a) (ends b) ≡ true ⌝ }
-    ensures { λ r. ⌜ ends r ≡ signedTimes s (ends a) (ends b) ⌝ }
+    ensures { λ r. ⌜ forms r ≡ plainPair (signedTimes s (ends a) (ends b)) ⌝ }
 {
     let p = Signed {
         lo: Integer {
@@ -384,7 +385,7 @@ pub extern "C" fn pair_times_signed(a: SignedEnds, b: SignedEnds, s: u64) -> Sig
 #[no_mangle]
 pub extern "C" fn pair_signed_over(a: SignedEnds, lo: u64, hi: u64, s: u64) -> SignedEnds
     requires { ⌜ signedOverFits s (ends a) (lo to hi) ≡ true ⌝ }
-    ensures { λ r. ⌜ ends r ≡ signedOver s (ends a) (lo to hi) ⌝ }
+    ensures { λ r. ⌜ forms r ≡ plainPair (signedOver s (ends a) (lo to hi)) ⌝ }
 {
     let p = Signed {
         lo: Integer {
@@ -413,7 +414,7 @@ pub extern "C" fn pair_signed_over(a: SignedEnds, lo: u64, hi: u64, s: u64) -> S
 #[no_mangle]
 pub extern "C" fn pair_coarser(a: SignedEnds, k: u64) -> SignedEnds
     requires { ⌜ 0 < k ⌝ }
-    ensures { λ r. ⌜ ends r ≡ coarser k (ends a) ⌝ }
+    ensures { λ r. ⌜ forms r ≡ plainPair (coarser k (ends a)) ⌝ }
 {
     let p = Signed {
         lo: Integer {

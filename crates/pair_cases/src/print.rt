@@ -22,16 +22,15 @@ fn number(n: u64) {
     io::print_decimal(STDOUT_FILENO, n);
 }
 
+// A zero below zero would be seen, as -0.
 fn integer(z: Integer) {
     let below = z.below;
     if below {
-        if 0 < z.size {
-            io::write_all(STDOUT_FILENO, b" -");
-            io::print_decimal(STDOUT_FILENO, z.size);
-            return;
-        }
+        io::write_all(STDOUT_FILENO, b" -");
+        io::print_decimal(STDOUT_FILENO, z.size);
+    } else {
+        number(z.size);
     }
-    number(z.size);
 }
 
 fn two(a: u64, b: u64) {

@@ -1,17 +1,18 @@
 -- A fineness n and a finer one m × n: their scales, an exact value at both, and the smaller and the larger of two numbers at both.
-use Prim.Native.Nat.{ℕ, min, max, _*_, _%_, _^_, _≤_, _<_}
+use Prim.Native.Nat.{ℕ, min, max, _*_, _%_, _^_, _≤_, _<_, _∣_}
 use mathlib.Core.Path.{_≡_, refl}
 use mathlib.Core.Bool.{true}
 use native.Mathlib.Nat.{mul-comm, mul-pos, mul-le-mul, mul-le-mul-left, mul-le-mul-right, min-le-left, min-le-right, le-max-left, le-max-right}
-use native.Mathlib.Nat.{mul-div-assoc, dvd-of-mod-eq-zero, mod-eq-zero-of-dvd, dvd-mul-left-of-dvd}
+use native.Mathlib.Nat.{mul-div-assoc, div-mul-cancel, dvd-of-mod-eq-zero, mod-eq-zero-of-dvd, dvd-mul-left-of-dvd}
 use native.Mathlib.Decide.{decLe}
 use native.Mathlib.Omega.{arith}
 use lib.Dec.{lit<, lit≤}
 use Rattle.pair.specs.Fits.{exactRatio}
 use Rattle.pair.specs.Enclosure.{Finer, Inside}
-use Rattle.pair.proofs.Laws.{ratio-inside}
-use Rattle.pair.proofs.Bounds.{exact-ratio}
+use Rattle.pair.proofs.Laws.{same-scale, ratio-inside}
+use Rattle.pair.proofs.Bounds.{exact-ratio, ratio-box}
 use Rattle.section.specs.Working.{S, constant, units}
+use Rattle.section.specs.Constants.{Exact, ConstantsExact}
 use Rattle.section.specs.Room.{Fine}
 
 pub scale-positive : {n : ℕ} → 0 < n → 0 < n * 1000000
@@ -40,10 +41,14 @@ scale-square-most f = mul-le-mul (scale-most f) (scale-most f)
 pub word-at : {n : ℕ} (b : ℕ) → Fine n → b ≤ 1844674407370955161 → b * n < 2 ^ 64
 word-at {n} b f h = omega (arith, mul-le-mul-left {m = n} {n = 10} b (f .most))
 
--- a ÷ b is a whole number of units at every fineness where b divides 1,000,000
+-- b divides a × S at every fineness where it divides 1,000,000
+scale-divided : (n a b : ℕ) → 1000000 % b ≡ 0 → b ∣ a * (n * 1000000)
+scale-divided n a b e = dvd-mul-left-of-dvd b (dvd-mul-left-of-dvd b (dvd-of-mod-eq-zero b e) n) a
+
+-- so a ÷ b is a whole number of units
 pub constant-exact : {n : ℕ} (a b : ℕ) → 0 < n → 0 < b → 1000000 % b ≡ 0 → exactRatio (n * 1000000) a b ≡ true
 constant-exact {n} a b n⁺ b⁺ e =
-    exact-ratio _ a b (scale-positive n⁺) b⁺ (mod-eq-zero-of-dvd b (dvd-mul-left-of-dvd b (dvd-mul-left-of-dvd b (dvd-of-mod-eq-zero b e) n) a))
+    exact-ratio _ a b (scale-positive n⁺) b⁺ (mod-eq-zero-of-dvd b (scale-divided n a b e))
 
 -- so it is the same value at m × n, and m times as many units
 pub constant-inside : {n m : ℕ} → 0 < n → 0 < m → (a b : ℕ) → 0 < b → 1000000 % b ≡ 0 → Inside m (constant (m * n) a b) (constant n a b)
@@ -52,7 +57,26 @@ constant-inside n⁺ m⁺ a b b⁺ e = ratio-inside a b (finer m⁺ n⁺) (const
 pub units-finer : (m n a b : ℕ) → 1000000 % b ≡ 0 → units (m * n) a b ≡ units n a b * m
 units-finer m n a b e =
     let swap : a * (m * n * 1000000) ≡ m * (a * (n * 1000000)) = omega arith in
-    rw (swap, mul-div-assoc b m (dvd-mul-left-of-dvd b (dvd-mul-left-of-dvd b (dvd-of-mod-eq-zero b e) n) a)) (mul-comm m _)
+    rw (swap, mul-div-assoc b m (scale-divided n a b e)) (mul-comm m _)
+
+-- a ÷ b exactly: both ends of a constant, and a limit
+ends-exact : {n : ℕ} (a b : ℕ) → 0 < n → 0 < b → 1000000 % b ≡ 0 → Exact n a b
+ends-exact {n} a b n⁺ b⁺ e =
+    let limit : units n a b * b ≡ a * S n = div-mul-cancel b (scale-divided n a b e) in
+    let box = ratio-box a b (units n a b) (same-scale (scale-positive n⁺)) b⁺ limit in
+    let low : (constant n a b) .lo ≡ units n a b = omega (arith, box .low, box .mid, box .high) in
+    let high : (constant n a b) .hi ≡ units n a b = omega (arith, box .low, box .mid, box .high) in
+    record { low = rw low limit; high = rw high limit; limit = limit }
+
+pub every-constant-exact : {n : ℕ} → 0 < n → ConstantsExact n
+every-constant-exact n⁺ = record {
+  wholes = λ a. ends-exact a 1 n⁺ (lit< tt) refl;
+  halves = λ a. ends-exact a 2 n⁺ (lit< tt) refl;
+  tenths = λ a. ends-exact a 10 n⁺ (lit< tt) refl;
+  hundredths = λ a. ends-exact a 100 n⁺ (lit< tt) refl;
+  thousandths = λ a. ends-exact a 1000 n⁺ (lit< tt) refl;
+  hundred-thousandths = λ a. ends-exact a 100000 n⁺ (lit< tt) refl;
+}
 
 -- the smaller of a fixed number and a quotient
 pub min-down : (s q Q m : ℕ) → q * m ≤ Q → min s q * m ≤ min (m * s) Q

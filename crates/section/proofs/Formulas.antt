@@ -24,7 +24,7 @@ use Rattle.section.proofs.Factor.{χ-inside}
 use Rattle.section.proofs.Coefficient.{k-inside, k-positive}
 
 -- v × a is above zero where v and a are
-whole-times-positive : {n : ℕ} (v : ℕ) {a : Pair} → 0 < n → 0 < v → Positive a → Positive (times (n * 1000000) (ratio (n * 1000000) v 1) a)
+pub whole-times-positive : {n : ℕ} (v : ℕ) {a : Pair} → 0 < n → 0 < v → Positive a → Positive (times (n * 1000000) (ratio (n * 1000000) v 1) a)
 whole-times-positive {n} v {a} n⁺ v⁺ p =
     let least : AtLeast (v * S n) (ratio (S n) v 1) = rw (ratio-exact (S n) v 1 (v * S n) (lit< tt) (mul-one _)) (exact-at-least _) in
     at-least-positive (mul-pos v⁺ (p .low)) (times-at-least (S n) (v * a .lo) (scale-positive n⁺) least (own-least a) (omega arith))

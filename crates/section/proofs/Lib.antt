@@ -25,4 +25,5 @@ pub mod SheetRooms
 pub mod Printing
 pub mod PrintedFigures
 pub mod NothingCut
+pub mod NothingZero
 pub mod Theorems

@@ -15,10 +15,10 @@ use Rattle.pair.proofs.Laws.{ratio-ordered}
 use Rattle.pair.proofs.Ratios.{ratio-exact}
 use Rattle.pair.proofs.Bounds.{exact-at-most}
 use Rattle.section.specs.declared.Sheet.{Sheet}
-use Rattle.section.specs.Sheets.{Sound}
+use Rattle.section.specs.Sheets.{Question2, Sound}
 use Rattle.section.specs.Working.{S, constant, units, mm}
 use Rattle.section.specs.Room.{Fine}
-use Rattle.section.specs.Uncut.{NotCut, Uncut}
+use Rattle.section.specs.Uncut.{NotCut, Uncut, QuestionsUncut}
 use Rattle.section.proofs.Ends.{own-fine, constant-inside}
 use Rattle.section.proofs.Formulas.{taken-off-inside, half-inside, mid-line-inside}
 use Rattle.section.proofs.Whole.{SheetDivisors, sheet-rounds-inside, sheet-kept-inside, sheet-full-inside}
@@ -81,3 +81,7 @@ uncut-finer {n} {m} q n⁺ m⁺ d c =
 
 pub uncut : {n : ℕ} (q : Sheet) → 0 < n → Sound q → Uncut n q
 uncut {n} q n⁺ s = rw (mul-one n) at (uncut-finer {n = 1} q (lit< tt) n⁺ (fine-divisors s own-fine) (fine-uncut own-fine s))
+
+-- in the questions, by the ranges of b, c and tnom
+pub questions-uncut : (q : Sheet) → Question2 q → QuestionsUncut q
+questions-uncut q r = record { bp₁ = omega arith; bp₂ = omega arith; cp = omega arith }

@@ -1,4 +1,4 @@
--- The printed figures: what the code's form of them stands for, the eleventh question as a test, and below what number each lies.
+-- The printed figures: the fields of the code's form of them, the eleventh question as a test, and below what number each lies.
 use mathlib.Core.Path.{_≡_, refl}
 use mathlib.Core.Bool.{true, false}
 use mathlib.Core.Logic.{_↔_}
@@ -8,47 +8,46 @@ use native.Mathlib.Omega.{arith}
 use borrow.Author.Tests.{leb-true, leb-false, le-leb, lt-leb}
 use lib.Dec.{lit<}
 use lib.IntN.{ℤ, pos, _*ℤ_}
-use Rattle.pair.specs.SignedPairs.{integer}
+use Rattle.pair.specs.SignedPairs.{plain}
 use Rattle.pair.specs.Enclosure.{Reaches}
 use Rattle.pair.specs.declared.Pair.{Pair}
 use Rattle.pair.proofs.SignedBounds.{Within, low-within, high-within, times-within, floor-within, ceil-within, signed-minus-reaches}
 use Rattle.section.specs.declared.Sheet.{Sheet}
-use Rattle.section.specs.declared.Figures.{Figures}
 use Rattle.section.specs.Sheets.{Sound}
 use Rattle.section.specs.Working.{S, worked}
-use Rattle.section.specs.Figures.{printed, figures, FiguresBelow, Question11, allowed}
-use Rattle.section.specs.Forms.{printedOf}
+use Rattle.section.specs.Figures.{Printed, printed, figures, FiguresBelow, Question11, allowed}
+use Rattle.section.specs.Forms.{figuresOf}
 use Rattle.section.specs.Room.{Fine}
 use Rattle.section.proofs.SheetNumbers.{section-numbers}
 use Rattle.section.proofs.SizesOfSheets.{hp-box, sheet-effective-box, sheet-full-box}
 use Rattle.section.proofs.SizesOfAxis.{axis-reaches}
 use Rattle.section.proofs.Printing.{area-most, printed-area}
 
--- what the code's form stands for
+-- the fields of the code's form
 
-module _ (f : Figures) where
-  pub area-of-form : (printedOf f) .area ≡ f .area
-  unfolding printedOf
+module _ (p : Printed) where
+  pub area-of-form : (figuresOf p) .area ≡ p .area
+  unfolding figuresOf
   area-of-form = refl
 
-  pub axial-of-form : (printedOf f) .axial ≡ f .axial
-  unfolding printedOf
+  pub axial-of-form : (figuresOf p) .axial ≡ p .axial
+  unfolding figuresOf
   axial-of-form = refl
 
-  pub chi1-of-form : (printedOf f) .chi1 ≡ f .chi1
-  unfolding printedOf
+  pub chi1-of-form : (figuresOf p) .chi1 ≡ p .chi1
+  unfolding figuresOf
   chi1-of-form = refl
 
-  pub chi2-of-form : (printedOf f) .chi2 ≡ f .chi2
-  unfolding printedOf
+  pub chi2-of-form : (figuresOf p) .chi2 ≡ p .chi2
+  unfolding figuresOf
   chi2-of-form = refl
 
-  pub shiftlo-of-form : (printedOf f) .shiftlo ≡ integer (f .shiftlo)
-  unfolding printedOf
+  pub shiftlo-of-form : (figuresOf p) .shiftlo ≡ plain (p .shiftlo)
+  unfolding figuresOf
   shiftlo-of-form = refl
 
-  pub shifthi-of-form : (printedOf f) .shifthi ≡ integer (f .shifthi)
-  unfolding printedOf
+  pub shifthi-of-form : (figuresOf p) .shifthi ≡ plain (p .shifthi)
+  unfolding figuresOf
   shifthi-of-form = refl
 
 -- the eleventh question as a test: true exactly where it is met, false exactly where it is not

@@ -4,13 +4,15 @@ use Prim.Native.Nat.{ℕ, _*_, _/_, _^_, _≤_, _<_}
 use native.Mathlib.Nat.{lt-of-le-of-lt, mul-pos, mul-le-mul, mul-le-mul-left, div-le-of-le-mul}
 use native.Mathlib.Omega.{arith}
 use Rattle.pair.specs.Rounding.{ceilDiv}
+use Rattle.pair.specs.SignedPairs.{meaning}
 use Rattle.pair.proofs.Quotients.{ceil-le}
+use Rattle.pair.proofs.SignedForms.{pair-means}
 use Rattle.section.specs.declared.Sheet.{Sheet}
 use Rattle.section.specs.declared.Work.{Work}
 use Rattle.section.specs.Sheets.{Sound}
 use Rattle.section.specs.Working.{S, Worked, worked}
 use Rattle.section.specs.Figures.{printed, figures}
-use Rattle.section.specs.Forms.{workedOf}
+use Rattle.section.specs.Forms.{workOf}
 use Rattle.section.specs.Room.{Fine}
 use Rattle.section.proofs.Ends.{scale-most}
 use Rattle.section.proofs.SheetNumbers.{section-numbers}
@@ -45,14 +47,18 @@ area-most {n} {q} f s =
     let box = area-box f (section-numbers s .web .high) (q .t .0) (s .q2 .t .high) (sheet-effective-box s f) in
     (box .mid, box .high)
 
--- the parts of what the code's form stands for
+-- the parts of the code's form
 
-pub area-of : (w : Work) {x : Worked} → workedOf w ≡ x → w .area ≡ x .area
-unfolding workedOf
-area-of w e = ap (λ (y : Worked). y .area) e
+pub area-of : (x : Worked) {w : Work} → w ≡ workOf x → w .area ≡ x .area
+unfolding workOf
+area-of x e = ap (λ (y : Work). y .area) e
 
-pub area-fits : {n : ℕ} {q : Sheet} (w : Work) → Fine n → Sound q → workedOf w ≡ worked n q → (w .area .lo ≤ 6840000000 * n) × (w .area .hi ≤ 6840000000 * n)
-area-fits w f s e = rw (area-of w e) (omega (arith, area-most f s))
+pub shift-of : (x : Worked) {w : Work} → w ≡ workOf x → meaning (w .shift) ≡ x .shift
+unfolding workOf
+shift-of x e = pair-means (ap (λ (y : Work). y .shift) e)
+
+pub area-fits : {n : ℕ} {q : Sheet} {w : Work} → Fine n → Sound q → w ≡ workOf (worked n q) → (w .area .lo ≤ 6840000000 * n) × (w .area .hi ≤ 6840000000 * n)
+area-fits {n} {q} f s e = rw (area-of (worked n q) e) (omega (arith, area-most f s))
 
 pub printed-area : {n : ℕ} {q : Sheet} {a : ℕ} → Fine n → Sound q → a ≡ (figures n q) .area → a ≤ 684000
 unfolding figures printed

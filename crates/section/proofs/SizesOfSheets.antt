@@ -10,7 +10,8 @@ use Rattle.section.specs.declared.Sheet.{Sheet}
 use Rattle.section.specs.Sheets.{Sound}
 use Rattle.section.specs.Working.{mm, whole, rounds}
 use Rattle.section.specs.Room.{Fine, FlangeRoom, EffectiveRoom, hp-of, cp-of, bp₁-of, bp₂-of, flange₁-of, flange₂-of, effective-of, full-of}
-use Rattle.section.proofs.Whole.{StiffenerDivisors, SheetDivisors}
+use Rattle.section.proofs.Ends.{own-fine}
+use Rattle.section.proofs.Whole.{StiffenerDivisors, SheetDivisors, sheet-divisors}
 use Rattle.section.proofs.KeptBoxes.{KeptBox}
 use Rattle.section.proofs.BoxRooms.{box-positive, mm-box}
 use Rattle.section.proofs.SheetNumbers.{FlangeNumbers, mid-line-box, lip-line-box, section-numbers}
@@ -74,3 +75,7 @@ module _ {q : Sheet} (s : Sound q) {n : ℕ} (f : Fine n) where
     kept = length-positive f (section-numbers s .web .high) sheet-effective-box;
     gross = length-positive f (section-numbers s .web .high) sheet-full-box;
   }
+
+-- at any scale
+pub sound-divisors : {n : ℕ} (q : Sheet) → 0 < n → Sound q → SheetDivisors n q
+sound-divisors q n⁺ s = sheet-divisors q n⁺ (fine-divisors s own-fine)

@@ -1,35 +1,46 @@
--- What is proved of every sheet that meets questions 2 to 10, in one place.
+-- What is proved of written constants, and of every sheet that meets questions 2 to 10, in one place.
 use Prim.Native.Nat.{ℕ, _*_, _<_}
 use native.Mathlib.Omega.{arith}
 use Rattle.section.specs.declared.Sheet.{Sheet}
-use Rattle.section.specs.Sheets.{Sound}
+use Rattle.section.specs.Sheets.{Question2, Sound}
 use Rattle.section.specs.Working.{worked}
 use Rattle.section.specs.Figures.{figures, FiguresBelow, Question11, Held}
 use Rattle.section.specs.Nested.{WorkedInside}
-use Rattle.section.specs.Uncut.{Uncut}
-use Rattle.section.proofs.Ends.{own-fine}
-use Rattle.section.proofs.Whole.{SheetDivisors, sheet-divisors, worked-inside}
+use Rattle.section.specs.Uncut.{Uncut, QuestionsUncut}
+use Rattle.section.specs.Divisors.{DivisorsAboveZero}
+use Rattle.section.specs.Constants.{ConstantsExact}
+use Rattle.section.proofs.Ends.{own-fine, every-constant-exact}
+use Rattle.section.proofs.Whole.{worked-inside}
 use Rattle.section.proofs.Promise.{held}
-use Rattle.section.proofs.SizesOfSheets.{fine-divisors}
+use Rattle.section.proofs.SizesOfSheets.{sound-divisors}
 use Rattle.section.proofs.PrintedFigures.{figures-below}
-use Rattle.section.proofs.NothingCut.{uncut}
+use Rattle.section.proofs.NothingCut.{uncut, questions-uncut}
+use Rattle.section.proofs.NothingZero.{nothing-zero}
 
--- no divisor is zero, at any scale
-pub divisors-above-zero : {n : ℕ} (q : Sheet) → 0 < n → Sound q → SheetDivisors n q
-divisors-above-zero q n⁺ s = sheet-divisors q n⁺ (fine-divisors s own-fine)
+-- written constants and sheet numbers are exact, at any scale
+pub constants-exact : {n : ℕ} → 0 < n → ConstantsExact n
+constants-exact n⁺ = every-constant-exact n⁺
+
+-- no divisor is zero, at any scale and in any round
+pub divisors-above-zero : {n : ℕ} (q : Sheet) → 0 < n → Sound q → DivisorsAboveZero n q
+divisors-above-zero q n⁺ s = nothing-zero q n⁺ s
 
 -- no subtraction of natural numbers is cut at zero, at any scale and in any round
 pub nothing-cut-at-zero : {n : ℕ} (q : Sheet) → 0 < n → Sound q → Uncut n q
 nothing-cut-at-zero q n⁺ s = uncut q n⁺ s
 
+-- nor is one of the questions, asked where the second is met
+pub questions-not-cut : (q : Sheet) → Question2 q → QuestionsUncut q
+questions-not-cut q r = questions-uncut q r
+
 -- the working at m times a scale lies inside the working at that scale: area, both χ, z, gross z and shift
 pub finer-working-inside : {n m : ℕ} (q : Sheet) → 0 < n → 0 < m → Sound q → WorkedInside m (worked (m * n) q) (worked n q)
-finer-working-inside q n⁺ m⁺ s = worked-inside n⁺ m⁺ q (divisors-above-zero q n⁺ s)
+finer-working-inside q n⁺ m⁺ s = worked-inside n⁺ m⁺ q (sound-divisors q n⁺ s)
 
 -- and both ends of its area, axial resistance and shift are held by what is printed at that scale, where the eleventh question is met
 pub finer-working-held : {n m : ℕ} (q : Sheet) → 0 < n → 0 < m → Sound q → Question11 n q → Held (m * n) (figures n q) (q .allow) (q .fyb) (q .gm0) (worked (m * n) q)
 finer-working-held q n⁺ m⁺ s a =
-    held n⁺ m⁺ q (omega (arith, s .q2 .gm0 .low)) (divisors-above-zero q n⁺ s) a
+    held n⁺ m⁺ q (omega (arith, s .q2 .gm0 .low)) (sound-divisors q n⁺ s) a
 
 -- no printed figure has more than ten digits
 pub figures-have-ten-digits : (q : Sheet) → Sound q → FiguresBelow 10000000000 (figures 1 q)

@@ -1,7 +1,7 @@
--- What the code's structs stand for.
+-- The code's structs, as forms of what is specified.
 use Prim.Native.Nat.{ℕ}
 use mathlib.Core.Path.{_≡_}
-use Rattle.pair.specs.SignedPairs.{integer, meaning}
+use Rattle.pair.specs.SignedPairs.{plain, plainPair}
 use Rattle.section.specs.declared.Sheet.{Sheet}
 use Rattle.section.specs.declared.Lines.{Lines}
 use Rattle.section.specs.declared.Work.{Work}
@@ -16,9 +16,10 @@ pub record LinesAre (n : ℕ) (q : Sheet) (l : Lines) : Type 0 where
   pub bp₁ : l .bp1 ≡ mid-line n (q .b1) (q .tnom .0)
   pub bp₂ : l .bp2 ≡ mid-line n (q .b2) (q .tnom .0)
 
-unfoldable pub workedOf : Work → Worked
-workedOf w = record { area = w .area; χ₁ = w .chi1; χ₂ = w .chi2; z = meaning (w .z); gross-z = meaning (w .gross); shift = meaning (w .shift) }
+-- a working and the printed figures as the code holds them
+unfoldable pub workOf : Worked → Work
+workOf w = record { area = w .area; chi1 = w .χ₁; chi2 = w .χ₂; z = plainPair (w .z); gross = plainPair (w .gross-z); shift = plainPair (w .shift) }
 
-unfoldable pub printedOf : Figures → Printed
-printedOf f =
-    record { area = f .area; axial = f .axial; chi1 = f .chi1; chi2 = f .chi2; shiftlo = integer (f .shiftlo); shifthi = integer (f .shifthi) }
+unfoldable pub figuresOf : Printed → Figures
+figuresOf p =
+    record { area = p .area; axial = p .axial; chi1 = p .chi1; chi2 = p .chi2; shiftlo = plain (p .shiftlo); shifthi = plain (p .shifthi) }

@@ -6,3 +6,5 @@ pub mod Forms
 pub mod Nested
 pub mod Room
 pub mod Uncut
+pub mod Divisors
+pub mod Constants

@@ -1,5 +1,7 @@
--- Subtraction of natural numbers is cut at zero; in the working of a sheet it never is. A field for each subtraction of specs/Working.antt.
--- (Document 01, "Widths and slenderness" to "Area, resistance, shift". hp − c2÷2 and the shift are signed.)
+-- Subtraction of natural numbers is cut at zero; in the working of a sheet and in the questions on it, it never is.
+-- `Uncut` has a field for each subtraction of specs/Working.antt, at one scale; `QuestionsUncut` has one for each of specs/Sheets.antt; specs/Figures.antt has none.
+-- (Document 01, "Widths and slenderness" to "Area, resistance, shift", and "The questions, in this order". hp − c2÷2 and the shift are signed.
+-- The d − 1 of `ceilDiv` is not cut, since no divisor is zero: specs/Divisors.antt.)
 use Prim.Native.Nat.{ℕ, _*_, _≤_, _<_}
 use Rattle.pair.specs.Pairs.{_to_, times, over}
 use Rattle.pair.specs.declared.Pair.{Pair}
@@ -50,3 +52,11 @@ module _ (n : ℕ) where
     -- hp − he÷2, of what counts and of the full section
     pub effective-web : NotCut (hp-of n q) ((effective-of n q) .m ⊘ whole n 2)
     pub full-web : NotCut (hp-of n q) ((full-of n q) .m ⊘ whole n 2)
+
+-- the questions, where every value is in range
+pub record QuestionsUncut (q : Sheet) : Type 0 where
+  -- 10r ≤ bp and 5cp ≤ 3bp, flange 1 then 2: bp = b − tnom
+  pub bp₁ : q .tnom .0 ≤ q .b1
+  pub bp₂ : q .tnom .0 ≤ q .b2
+  -- 5cp ≤ 3bp: cp twice, 2c − tnom
+  pub cp : q .tnom .0 ≤ 2 * q .c

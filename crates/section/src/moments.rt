@@ -7,7 +7,7 @@ ghost use mathlib.Core.Path.{_≡_};
 ghost use mathlib.Core.Bool.{true};
 ghost use Prim.Native.Nat.{_*_};
 ghost use Rattle.pair.specs.Fits.{signedPlusFits};
-ghost use Rattle.pair.specs.SignedPairs.{meaning, signed};
+ghost use Rattle.pair.specs.SignedPairs.{meaning, plainPair, signed};
 ghost use Rattle.section.specs.Working.{_⊕_, _⊞_, L, lip-moment, flange-moment, far-web-moment, near-web-moment, near-lip-moment, moment, z};
 ghost use Rattle.section.specs.Room.{FixedRoom, LengthRoom, LipMomentRoom, FlangeMomentRoom, FarWebRoom, NearWebRoom, NearLipRoom, outer, OuterRoom, WebRoom, MomentRoom, AxisRoom};
 
@@ -47,7 +47,7 @@ pub fn length(n: u64, x: Kept) -> Pair
 // c2 * chi2 * (hp - c2 / 2), which may lie below zero.
 fn lip_moment(n: u64, hp: Pair, c: Pair, chi: Pair) -> Signed
     requires { ⌜ LipMomentRoom n hp c chi ⌝ }
-    ensures { λ r. ⌜ meaning r ≡ lip-moment n hp c chi ⌝ }
+    ensures { λ r. ⌜ r ≡ plainPair (lip-moment n hp c chi) ⌝ }
 {
     let s = n * 1_000_000;
     let force = c.times(chi, s);
@@ -101,7 +101,7 @@ fn near_lip_moment(n: u64, c: Pair, chi: Pair) -> Pair
 
 fn with_pair(a: Signed, p: Pair) -> Signed
     requires { ⌜ signedPlusFits (meaning a) (signed p) ≡ true ⌝ }
-    ensures { λ r. ⌜ meaning r ≡ meaning a ⊞ p ⌝ }
+    ensures { λ r. ⌜ r ≡ plainPair (meaning a ⊞ p) ⌝ }
 {
     let b = Signed::of(p);
     a.plus(b)
@@ -110,7 +110,7 @@ fn with_pair(a: Signed, p: Pair) -> Signed
 // The moment of flange 2 and its lip.
 fn outer_moment(n: u64, hp: Pair, x: Kept) -> Signed
     requires { ⌜ OuterRoom n hp x ⌝ }
-    ensures { λ r. ⌜ meaning r ≡ outer n hp x ⌝ }
+    ensures { λ r. ⌜ r ≡ plainPair (outer n hp x) ⌝ }
 {
     let two = x.two;
     let c = two.c;
@@ -125,7 +125,7 @@ fn outer_moment(n: u64, hp: Pair, x: Kept) -> Signed
 // With the moments of the web's parts.
 fn with_web(n: u64, hp: Pair, p: Pair, m: Pair, a: Signed) -> Signed
     requires { ⌜ WebRoom n hp p m (meaning a) ⌝ }
-    ensures { λ r. ⌜ meaning r ≡ meaning a ⊞ far-web-moment n hp m ⊞ near-web-moment n p ⌝ }
+    ensures { λ r. ⌜ r ≡ plainPair (meaning a ⊞ far-web-moment n hp m ⊞ near-web-moment n p) ⌝ }
 {
     let far = far_web_moment(n, hp, m);
     let first = with_pair(a, far);
@@ -136,7 +136,7 @@ fn with_web(n: u64, hp: Pair, p: Pair, m: Pair, a: Signed) -> Signed
 // The moment of all kept parts about flange 1.
 pub fn first_moment(n: u64, hp: Pair, x: Kept) -> Signed
     requires { ⌜ MomentRoom n hp x ⌝ }
-    ensures { λ r. ⌜ meaning r ≡ moment n hp x ⌝ }
+    ensures { λ r. ⌜ r ≡ plainPair (moment n hp x) ⌝ }
 {
     let one = x.one;
     let c = one.c;
@@ -152,7 +152,7 @@ pub fn first_moment(n: u64, hp: Pair, x: Kept) -> Signed
 // z, the distance of the neutral axis from flange 1; l is L of the same kept parts.
 pub fn axis(n: u64, hp: Pair, x: Kept, l: Pair) -> Signed
     requires { ⌜ AxisRoom n hp x × (l ≡ L n x) ⌝ }
-    ensures { λ r. ⌜ meaning r ≡ z n hp x ⌝ }
+    ensures { λ r. ⌜ r ≡ plainPair (z n hp x) ⌝ }
 {
     let sum = first_moment(n, hp, x);
     sum.over(l, n * 1_000_000)

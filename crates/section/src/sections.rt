@@ -21,11 +21,11 @@ ghost use Prim.Native.Nat.{_*_, _/_, _≤_};
 ghost use lib.IntN.{pos, _*ℤ_};
 ghost use Rattle.pair.specs.Pairs.{root};
 ghost use Rattle.pair.specs.Integers.{floorOver, ceilOver};
-ghost use Rattle.pair.specs.SignedPairs.{integer, meaning};
+ghost use Rattle.pair.specs.SignedPairs.{plain, meaning};
 ghost use Rattle.section.specs.Sheets.{Sound};
 ghost use Rattle.section.specs.Working.{S, mm, whole, u², ρ-plane, half-kept, effective, full, worked};
 ghost use Rattle.section.specs.Figures.{figures, allowed};
-ghost use Rattle.section.specs.Forms.{LinesAre, workedOf, printedOf};
+ghost use Rattle.section.specs.Forms.{LinesAre, workOf, figuresOf};
 ghost use Rattle.section.specs.Room.{Fine, WebKeptRoom, EffectiveRoom, FullRoom, SheetRoom, hp-of, effective-of, full-of};
 
 // he = 0.5 * rho * hp of the web.
@@ -152,7 +152,7 @@ fn full_of(n: u64, q: Sheet, l: Lines) -> Kept
 // Area, axes and shift of an effective section e beside the gross section g.
 fn worked_of(n: u64, q: Sheet, hp: Pair, e: Kept, g: Kept) -> Work
     requires { ⌜ SheetRoom n q × (hp ≡ hp-of n q) × (e ≡ effective-of n q) × (g ≡ full-of n q) ⌝ }
-    ensures { λ r. ⌜ workedOf r ≡ worked n q ⌝ }
+    ensures { λ r. ⌜ r ≡ workOf (worked n q) ⌝ }
 {
     let t = q.t;
     let chi1 = e.chi1;
@@ -176,7 +176,7 @@ fn worked_of(n: u64, q: Sheet, hp: Pair, e: Kept, g: Kept) -> Work
 // The working of a sheet that meets the questions on its numbers, at fineness n.
 pub fn work(n: u64, q: Sheet) -> Work
     requires { ⌜ Fine n × Sound q ⌝ }
-    ensures { λ r. ⌜ workedOf r ≡ worked n q ⌝ }
+    ensures { λ r. ⌜ r ≡ workOf (worked n q) ⌝ }
 {
     let l = lines_of(n, q);
     let e = effective_of(n, q, l);
@@ -196,7 +196,7 @@ fn lower_part(n: u64, p: Pair, k: u64) -> u64
 // The lower end in 0.01 mm, rounded toward minus infinity.
 fn lower_shift(n: u64, a: Signed) -> Integer
     requires { ⌜ Fine n ⌝ }
-    ensures { λ r. ⌜ integer r ≡ floorOver ((meaning a) .lo *ℤ pos 100) (S n) ⌝ }
+    ensures { λ r. ⌜ r ≡ plain (floorOver ((meaning a) .lo *ℤ pos 100) (S n)) ⌝ }
 {
     let low = a.lo;
     low.floor_by(100, n * 1_000_000)
@@ -205,7 +205,7 @@ fn lower_shift(n: u64, a: Signed) -> Integer
 // The upper end in 0.01 mm, rounded toward plus infinity.
 fn upper_shift(n: u64, a: Signed) -> Integer
     requires { ⌜ Fine n ⌝ }
-    ensures { λ r. ⌜ integer r ≡ ceilOver ((meaning a) .hi *ℤ pos 100) (S n) ⌝ }
+    ensures { λ r. ⌜ r ≡ plain (ceilOver ((meaning a) .hi *ℤ pos 100) (S n)) ⌝ }
 {
     let high = a.hi;
     high.ceil_by(100, n * 1_000_000)
@@ -221,8 +221,8 @@ fn axial(n: u64, q: Sheet, area: u64) -> u64
 
 // The printed figures of a working.
 pub fn figures_of(n: u64, q: Sheet, w: Work) -> Figures
-    requires { ⌜ Fine n × Sound q × (workedOf w ≡ worked n q) ⌝ }
-    ensures { λ r. ⌜ printedOf r ≡ figures n q ⌝ }
+    requires { ⌜ Fine n × Sound q × (w ≡ workOf (worked n q)) ⌝ }
+    ensures { λ r. ⌜ r ≡ figuresOf (figures n q) ⌝ }
 {
     let area = w.area;
     let chi1 = w.chi1;
@@ -240,7 +240,7 @@ pub fn figures_of(n: u64, q: Sheet, w: Work) -> Figures
 
 // Whether the area's upper end is at most area + allow, the eleventh question.
 pub fn within_allowance(n: u64, q: Sheet, w: Work, area: u64) -> bool
-    requires { ⌜ Fine n × Sound q × (workedOf w ≡ worked n q) × (area ≡ (figures n q) .area) ⌝ }
+    requires { ⌜ Fine n × Sound q × (w ≡ workOf (worked n q)) × (area ≡ (figures n q) .area) ⌝ }
     ensures { λ r. ⌜ r ≡ allowed n q ⌝ }
 {
     let upper = w.area;

@@ -1,24 +1,26 @@
 -- What the definitions of specs/Reading say at a place of the input, byte by byte and line by line: the steps of the code.
 use Prim.Native.Nat.{ℕ, zero, suc, _+_, _-_, _*_, _^_, _≤_, _<_}
 use mathlib.Core.Bool.{Bool, true, false, _&&_}
-use mathlib.Core.List.{List, [], _∷_, _++_, map-append, append-nil}
+use mathlib.Core.List.{List, [], _∷_, _++_, map, map-append, append-nil}
 use mathlib.Core.Path.{_≡_, refl, sym, ap, _∙_}
-use native.Mathlib.Nat.{add-zero, le-trans, mul-assoc, mul-le-mul-right, mul-le-mul-left, one-le-pow, pow-succ'}
+use native.Mathlib.Nat.{add-zero, sub-zero, le-trans, mul-assoc, mul-le-mul-right, mul-le-mul-left, one-le-pow, pow-succ'}
 use native.Mathlib.Numerals.{add-one}
 use native.Mathlib.Omega.{arith}
 use borrow.Author.Tests.{leb-true, eq-eqb, ne-eqb}
 use lib.Dec.{leb, eqb}
 use lib.IntN.{ℤ, pos, negℤ, natAbs}
-use lib.ListN.{length, getD, take, drop, set, drop-of-length-le}
-use lib.Seq.{getD-drop, drop-drop, drop-cons, take-suc-set}
-use Rattle.pair.specs.SignedPairs.{integer}
+use lib.ListN.{length, getD, drop, set, replicate, length-append, length-map, drop-of-length-le}
+use lib.Seq.{getD-drop, drop-drop, drop-cons}
+use Rattle.pair.specs.SignedPairs.{integer, plain}
 use Rattle.pair.specs.declared.signed.Integer.{Integer}
+use Rattle.pair.proofs.IntegerForms.{above-is, plain-is}
 use Rattle.pair.proofs.Tests.{and-left, and-right}
-use Rattle.text.specs.Keys.{newline, kindOf, keyOf}
+use Rattle.text.specs.Keys.{newline, kindOf, keyOf, certificateLines}
 use Rattle.text.specs.Decimal.{digit0, minus}
 use Rattle.text.specs.Lines.{letterC, letterZ, mostDigits}
-use Rattle.text.specs.Reading.{Front, got, bad, first, rest, isDigit, ended, readDigits, readNumber, negated, readShift, readLetter, readValue, begins, readLine, Reading, values, badLine, prepend, readEnd, andThen, readFrom}
-use Rattle.text.specs.Forms.{integers}
+use Rattle.text.specs.Reading.{Front, got, bad, first, rest, isDigit, ended, readDigits, readNumber, negated, readShift, readLetter, readValue, begins, readLine, Reading, values, badLine, prepend, readEnd, andThen, readFrom, readLines}
+use Rattle.text.specs.declared.reading.Verdict.the-variants.{Right}
+use Rattle.text.specs.Forms.{arrayOf, linesOf}
 
 pub digit-range : (b : ℕ) → isDigit b ≡ true → (digit0 ≤ b) × (b ≤ digit0 + 9)
 digit-range b e = (leb-true digit0 b (and-left _ _ e), leb-true b (digit0 + 9) (and-right (leb digit0 b) _ e))
@@ -165,48 +167,89 @@ unfolding prepend
 behind-values [] m = refl
 behind-values (x ∷ l) m = ap (prepend x) (behind-values l m)
 
--- Lines before line i are read, with the values vs, and line i is to begin at `at`.
-module _ (count i : ℕ) (s : List ℕ) (at : ℕ) (vs : List Integer) (whole : Reading)
-    (so-far : whole ≡ behind (integers (take i vs)) (readFrom (count - i) i (drop at s))) where
+-- the array of the code, value by value
+
+pub above-plain : (z : Integer) → z .below ≡ false → z ≡ plain (integer z)
+above-plain z e = plain-is z (λ t. let no : _≡_ {A = ℕ} 0 1 = cc in omega arith)
+
+pub zeros : replicate certificateLines (record { below = false; size = 0 }) ≡ arrayOf []
+unfolding arrayOf
+zeros =
+    let z : Integer = record { below = false; size = 0 } in
+    ap (replicate certificateLines) (above-plain z refl ∙ ap plain (above-is z refl))
+
+set-behind : (l : List Integer) (k : ℕ) (z x : Integer) → set (l ++ replicate (suc k) z) (length l) x ≡ (l ++ (x ∷ [])) ++ replicate k z
+set-behind [] k z x = refl
+set-behind (y ∷ l) k z x = ap (λ (m : List Integer). y ∷ m) (set-behind l k z x)
+
+array-more : (us : List ℤ) (i : ℕ) (v : Integer) → length us ≡ i → i < certificateLines → v ≡ plain (integer v)
+    → set (arrayOf us) i v ≡ arrayOf (us ++ (integer v ∷ []))
+unfolding arrayOf
+array-more us i v n below form =
+    let z = plain (pos 0) in
+    let k = certificateLines - length (us ++ (integer v ∷ [])) in
+    let left : certificateLines - length us ≡ suc k = omega (arith, length-append us (integer v ∷ [])) in
+    ap (λ (m : ℕ). set (map plain us ++ replicate m z) i v) left
+    ∙ ap (λ (j : ℕ). set (map plain us ++ replicate (suc k) z) j v) (sym (length-map us plain ∙ n))
+    ∙ set-behind (map plain us) k z v
+    ∙ ap (λ (w : Integer). (map plain us ++ (w ∷ [])) ++ replicate k z) form
+    ∙ ap (λ (l : List Integer). l ++ replicate k z) (sym (map-append plain us (integer v ∷ [])))
+
+-- Of the lines of s, those before line i are read, and line i is to begin at `at`: the values read, which the array vs holds, and the answer from here on behind them.
+pub record Begun (count : ℕ) (s : List ℕ) (i at : ℕ) (vs : List Integer) : Type 0 where
+  pub read : List ℤ
+  pub lines : length read ≡ i
+  pub array : vs ≡ arrayOf read
+  pub whole : readLines count s ≡ behind read (readFrom (count - i) i (drop at s))
+
+pub none-read : (count : ℕ) (s : List ℕ) → Begun count s 0 0 (replicate certificateLines (record { below = false; size = 0 }))
+none-read count s = record { read = []; lines = refl; array = zeros; whole = ap (λ (n : ℕ). readFrom n 0 s) (sym (sub-zero count)) }
+
+module _ {count i at : ℕ} {s : List ℕ} {vs : List Integer} (b : Begun count s i at vs) where
   module _ (more : i < count) where
-    next-line : whole ≡ behind (integers (take i vs)) (andThen i (readLine i (drop at s)) (readFrom (count - (i + 1)) (suc i)))
+    next-line : readLines count s ≡ behind (b .read) (andThen i (readLine i (drop at s)) (readFrom (count - (i + 1)) (suc i)))
     unfolding readFrom
     next-line =
         let left : count - i ≡ suc (count - (i + 1)) = omega arith in
-        so-far ∙ ap (λ (n : ℕ). behind (integers (take i vs)) (readFrom n i (drop at s))) left
+        b .whole ∙ ap (λ (n : ℕ). behind (b .read) (readFrom n i (drop at s))) left
 
-    pub lines-bad : readLine i (drop at s) ≡ bad → whole ≡ badLine (i + 1)
+    pub lines-bad : readLine i (drop at s) ≡ bad → readLines count s ≡ badLine (i + 1)
     unfolding andThen
     lines-bad h =
-        next-line ∙ ap (λ (f : Front). behind (integers (take i vs)) (andThen i f (readFrom (count - (i + 1)) (suc i)))) h
-        ∙ behind-bad (integers (take i vs)) (suc i) ∙ ap badLine (sym (add-one i))
+        next-line ∙ ap (λ (f : Front). behind (b .read) (andThen i f (readFrom (count - (i + 1)) (suc i)))) h
+        ∙ behind-bad (b .read) (suc i) ∙ ap badLine (sym (add-one i))
 
-    pub lines-more : (v : Integer) (next : ℕ) → i < length vs → readLine i (drop at s) ≡ got (integer v) (drop next s)
-        → whole ≡ behind (integers (take (i + 1) (set vs i v))) (readFrom (count - (i + 1)) (i + 1) (drop next s))
+    pub lines-more : (v : Integer) (next : ℕ) → i < certificateLines → v ≡ plain (integer v) → readLine i (drop at s) ≡ got (integer v) (drop next s)
+        → Begun count s (i + 1) next (set vs i v)
     unfolding andThen
-    lines-more v next below h =
-        let r = readFrom (count - (i + 1)) (suc i) (drop next s) in
-        next-line ∙ ap (λ (f : Front). behind (integers (take i vs)) (andThen i f (readFrom (count - (i + 1)) (suc i)))) h
-        ∙ sym (behind-snoc (integers (take i vs)) (integer v) r)
-        ∙ ap (λ (l : List ℤ). behind l r) (sym (map-append integer (take i vs) (v ∷ [])))
-        ∙ ap (λ (l : List Integer). behind (integers l) r) (sym (take-suc-set vs i v below))
-        ∙ ap (λ (n : ℕ). behind (integers (take n (set vs i v))) (readFrom (count - (i + 1)) n (drop next s))) (sym (add-one i))
+    lines-more v next below form h = record {
+      read = b .read ++ (integer v ∷ []);
+      lines = simp length-append (omega (arith, b .lines));
+      array = ap (λ (l : List Integer). set l i v) (b .array) ∙ array-more (b .read) i v (b .lines) below form;
+      whole =
+          let r = readFrom (count - (i + 1)) (suc i) (drop next s) in
+          next-line ∙ ap (λ (f : Front). behind (b .read) (andThen i f (readFrom (count - (i + 1)) (suc i)))) h
+          ∙ sym (behind-snoc (b .read) (integer v) r)
+          ∙ ap (λ (n : ℕ). behind (b .read ++ (integer v ∷ [])) (readFrom (count - (i + 1)) n (drop next s))) (sym (add-one i));
+    }
 
   module _ (all : i ≡ count) where
-    last-line : whole ≡ behind (integers (take i vs)) (readEnd i (drop at s))
+    last-line : readLines count s ≡ behind (b .read) (readEnd i (drop at s))
     unfolding readFrom
     last-line =
         let none : count - i ≡ 0 = omega arith in
-        so-far ∙ ap (λ (n : ℕ). behind (integers (take i vs)) (readFrom n i (drop at s))) none
+        b .whole ∙ ap (λ (n : ℕ). behind (b .read) (readFrom n i (drop at s))) none
 
-    pub lines-end : length s ≤ at → whole ≡ values (integers (take count vs))
-    unfolding readEnd
+    pub lines-end : length s ≤ at → record { verdict = Right; values = vs } ≡ linesOf (readLines count s)
+    unfolding readEnd linesOf
     lines-end h =
-        last-line ∙ ap (λ (l : List ℕ). behind (integers (take i vs)) (readEnd i l)) (drop-of-length-le s {i = at} h)
-        ∙ behind-values (integers (take i vs)) [] ∙ ap values (append-nil (integers (take i vs))) ∙ ap (λ (n : ℕ). values (integers (take n vs))) all
+        ap (λ (l : List Integer). record { verdict = Right; values = l }) (b .array)
+        ∙ sym (ap linesOf
+        (last-line ∙ ap (λ (l : List ℕ). behind (b .read) (readEnd i l)) (drop-of-length-le s {i = at} h)
+        ∙ behind-values (b .read) [] ∙ ap values (append-nil (b .read))))
 
-    pub lines-behind : at < length s → whole ≡ badLine (count + 1)
+    pub lines-behind : at < length s → readLines count s ≡ badLine (count + 1)
     unfolding readEnd
     lines-behind h =
-        last-line ∙ ap (λ (l : List ℕ). behind (integers (take i vs)) (readEnd i l)) (drop-cons s at 0 h)
-        ∙ behind-bad (integers (take i vs)) (suc i) ∙ ap badLine (sym (add-one i)) ∙ ap (λ (n : ℕ). badLine (n + 1)) all
+        last-line ∙ ap (λ (l : List ℕ). behind (b .read) (readEnd i l)) (drop-cons s at 0 h)
+        ∙ behind-bad (b .read) (suc i) ∙ ap badLine (sym (add-one i)) ∙ ap (λ (n : ℕ). badLine (n + 1)) all

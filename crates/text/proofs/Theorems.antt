@@ -7,14 +7,17 @@ use mathlib.Core.Path.{_≡_, refl, sym, ap, _∙_, subst}
 use native.Mathlib.Nat.{add-zero, zero-add}
 use native.Mathlib.Omega.{arith}
 use lib.IntN.{ℤ, pos, negsuc, natAbs}
-use lib.ListN.{length, getD, take, drop, length-append, take-append-drop}
-use lib.Seq.{take-append-add}
+use lib.ListN.{length, getD, take, drop, length-append, length-map, take-append-drop}
+use lib.Seq.{take-append-add, take-append-seam}
+use Rattle.pair.specs.SignedPairs.{plain}
+use Rattle.pair.proofs.IntegerForms.{plain-means}
 use Rattle.text.specs.Keys.{Kind, letter, number, shift, sheetLines, certificateLines, firstShift, keys, keyOf, kindOf}
 use Rattle.text.specs.Decimal.{integerText}
 use Rattle.text.specs.Lines.{mostDigits, valueText, lineText, linesFrom, linesText, SpeltAs, Spelt, SpeltFrom, longestValue, longestLine, longestFrom, longest, TextOf, Begins, Unfit, FirstBad}
 use Rattle.text.specs.Reading.{Front, got, bad, readLine, Reading, values, badLine, prepend, readEnd, andThen, readFrom, readLines}
+use Rattle.text.specs.declared.reading.Lines.{Lines}
 use Rattle.text.specs.declared.reading.Verdict.the-variants.{Right, BadLine}
-use Rattle.text.specs.Forms.{reading}
+use Rattle.text.specs.Forms.{integers, arrayOf, linesOf}
 use Rattle.text.proofs.DecimalLaws.{decimal-length}
 use Rattle.text.proofs.LineLaws.{number-line, shift-line, line-size}
 use Rattle.text.proofs.ReadSteps.{behind, behind-bad, behind-values}
@@ -356,11 +359,39 @@ pub spelt-more : (i : ℕ) (v : ℤ) (vs : List ℤ) → Spelt i v → SpeltFrom
 unfolding SpeltFrom
 spelt-more i v vs g h = (g, h)
 
--- what the reader's answer stands for
-pub reading-right : (vs : List ℤ) → reading Right vs ≡ values vs
-unfolding reading
-reading-right vs = refl
+-- what the reader's answer tells
 
-pub reading-bad : (l : ℕ) (vs : List ℤ) → reading (BadLine l) vs ≡ badLine l
-unfolding reading
-reading-bad l vs = refl
+integers-plain : (vs : List ℤ) → integers (map plain vs) ≡ vs
+integers-plain [] = refl
+integers-plain (v ∷ vs) = ap (λ (w : ℤ). w ∷ integers (map plain vs)) (plain-means v) ∙ ap (λ (ws : List ℤ). v ∷ ws) (integers-plain vs)
+
+-- the first values of the array that holds them
+array-front : (vs : List ℤ) → integers (take (length vs) (arrayOf vs)) ≡ vs
+unfolding arrayOf
+array-front vs =
+    ap (λ (n : ℕ). integers (take n (arrayOf vs))) (sym (length-map vs plain))
+    ∙ ap integers (take-append-seam (map plain vs) _)
+    ∙ integers-plain vs
+
+-- Of n lines, the values where all are right, and otherwise the first bad one.
+module _ {r : Lines} (n : ℕ) (s : List ℕ) (e : r ≡ linesOf (readLines n s)) where
+  by-reading : {P : Type 0} → ((vs : List ℤ) → readLines n s ≡ values vs → r ≡ linesOf (values vs) → P) → ((l : ℕ) → readLines n s ≡ badLine l → r ≡ linesOf (badLine l) → P) → P
+  by-reading {P} p q = by-outcome (readLines n s) refl
+    where
+      by-outcome : (x : Reading) → readLines n s ≡ x → P
+      by-outcome (values vs) h = p vs h (e ∙ ap linesOf h)
+      by-outcome (badLine l) h = q l h (e ∙ ap linesOf h)
+
+  pub verdict-right : r .verdict ≡ Right → readLines n s ≡ values (integers (take n (r .values)))
+  unfolding linesOf
+  verdict-right g =
+      by-reading
+      (λ vs h is. h ∙ ap values (sym (rw (is, ← (reads-values n s vs .0 h .count)) (array-front vs))))
+      (λ l h is. let no : _≡_ {A = ℕ} 0 1 = cc in absurd (omega arith))
+
+  pub verdict-bad : {l : ℕ} → r .verdict ≡ BadLine l → readLines n s ≡ badLine l
+  unfolding linesOf
+  verdict-bad g =
+      by-reading
+      (λ vs h is. let no : _≡_ {A = ℕ} 0 1 = cc in absurd (omega arith))
+      (λ l h is. cc)

@@ -1,14 +1,16 @@
 -- What the code's answers stand for.
-use Prim.Native.Nat.{ℕ, _≤_}
-use mathlib.Core.List.{List, map}
-use lib.ListN.{drop}
-use lib.IntN.{ℤ}
-use Rattle.pair.specs.SignedPairs.{integer}
+use Prim.Native.Nat.{ℕ, _-_, _≤_}
+use mathlib.Core.List.{List, [], _++_, map}
+use mathlib.Core.Path.{_≡_}
+use lib.ListN.{length, drop, replicate}
+use lib.IntN.{ℤ, pos}
+use Rattle.pair.specs.SignedPairs.{integer, plain}
 use Rattle.pair.specs.declared.signed.Integer.{Integer}
+use Rattle.text.specs.Keys.{certificateLines}
 use Rattle.text.specs.Reading.{Front, got, bad, Reading, values, badLine}
 use Rattle.text.specs.declared.reading.Line.{Line}
 use Rattle.text.specs.declared.reading.Line.the-variants.{Got, Bad}
-use Rattle.text.specs.declared.reading.Verdict.{Verdict}
+use Rattle.text.specs.declared.reading.Lines.{Lines}
 use Rattle.text.specs.declared.reading.Verdict.the-variants.{Right, BadLine}
 
 -- the integers that an array of the code holds
@@ -20,12 +22,16 @@ unfoldable pub front : List ℕ → Line → Front
 front s (Got v next) = got (integer v) (drop next s)
 front s Bad = bad
 
--- the place behind a line is at most n
-unfoldable pub Within : ℕ → Line → Type 0
-Within n (Got v next) = next ≤ n
-Within n Bad = Unit
+-- the place behind a line is at most n, and its value is in plain form
+unfoldable pub PlainWithin : ℕ → Line → Type 0
+PlainWithin n (Got v next) = (next ≤ n) × (v ≡ plain (integer v))
+PlainWithin n Bad = Unit
 
--- a verdict, with the values read
-unfoldable pub reading : Verdict → List ℤ → Reading
-reading Right vs = values vs
-reading (BadLine l) vs = badLine l
+-- the array that holds the values vs in plain form, and zeros behind them
+unfoldable pub arrayOf : List ℤ → List Integer
+arrayOf vs = map plain vs ++ replicate (certificateLines - length vs) (plain (pos 0))
+
+-- the code's answer: a verdict, with the values read, and none beside a bad line
+unfoldable pub linesOf : Reading → Lines
+linesOf (values vs) = record { verdict = Right; values = arrayOf vs }
+linesOf (badLine l) = record { verdict = BadLine l; values = arrayOf [] }

@@ -13,8 +13,8 @@ ghost use lib.ListN.{length, getD, take, drop};
 ghost use lib.IntN.{pos};
 ghost use Rattle.text.specs.Keys.{keyOf, kindOf, certificateLines};
 ghost use Rattle.text.specs.Lines.{mostDigits};
-ghost use Rattle.text.specs.Reading.{isDigit, ended, readDigits, readNumber, readShift, readLetter, readValue, begins, readLine, readLines};
-ghost use Rattle.text.specs.Forms.{integers, front, Within, reading};
+ghost use Rattle.text.specs.Reading.{isDigit, ended, readDigits, readNumber, readShift, readLetter, readValue, begins, readLine, badLine, readLines};
+ghost use Rattle.text.specs.Forms.{front, PlainWithin, linesOf};
 
 // What stands at a place: a value and the place behind its newline, or nothing that is right.
 pub enum Line {
@@ -28,11 +28,17 @@ pub enum Verdict {
     BadLine(usize),
 }
 
-// The verdict, with the values in their order where all lines are right.
+// The verdict, with the values in their order where all lines are right; zeros stand behind them, and
+// everywhere beside a bad line.
 pub struct Lines {
     pub verdict: Verdict,
     pub values: [Integer; CERTIFICATE_LINES],
 }
+
+const ZERO: Integer = Integer {
+    below: false,
+    size: 0,
+};
 
 // A number has at most ten digits: so many may follow the first.
 const MORE_DIGITS: usize = 9;
@@ -60,7 +66,7 @@ fn is_digit(b: u8) -> bool
 // The value `size`, whose newline is to stand at `at`.
 fn end_at(s: &[u8], at: usize, size: u64) -> Line
     ensures { λ r. ⌜ front (now (s .entry)) r ≡ ended (pos size) (drop at (now (s .entry))) ⌝ }
-    ensures { λ r. ⌜ Within (length (now (s .entry))) r ⌝ }
+    ensures { λ r. ⌜ PlainWithin (length (now (s .entry))) r ⌝ }
 {
     if byte_at(s, at) == NEWLINE {
         let v = Integer { below: false, size };
@@ -74,7 +80,7 @@ fn end_at(s: &[u8], at: usize, size: u64) -> Line
 fn digits_at(s: &[u8], at: usize, begun: u64, most: usize) -> Line
     requires { ⌜ suc begun * 10 ^ most ≤ 10 ^ mostDigits ⌝ }
     ensures { λ r. ⌜ front (now (s .entry)) r ≡ readDigits most begun (drop at (now (s .entry))) ⌝ }
-    ensures { λ r. ⌜ Within (length (now (s .entry))) r ⌝ }
+    ensures { λ r. ⌜ PlainWithin (length (now (s .entry))) r ⌝ }
 {
     let mut next = at;
     let mut n = begun;
@@ -93,7 +99,7 @@ fn digits_at(s: &[u8], at: usize, begun: u64, most: usize) -> Line
 
 fn number_at(s: &[u8], at: usize) -> Line
     ensures { λ r. ⌜ front (now (s .entry)) r ≡ readNumber (drop at (now (s .entry))) ⌝ }
-    ensures { λ r. ⌜ Within (length (now (s .entry))) r ⌝ }
+    ensures { λ r. ⌜ PlainWithin (length (now (s .entry))) r ⌝ }
 {
     let b = byte_at(s, at);
     if b == b'0' {
@@ -107,7 +113,7 @@ fn number_at(s: &[u8], at: usize) -> Line
 
 fn shift_at(s: &[u8], at: usize) -> Line
     ensures { λ r. ⌜ front (now (s .entry)) r ≡ readShift (drop at (now (s .entry))) ⌝ }
-    ensures { λ r. ⌜ Within (length (now (s .entry))) r ⌝ }
+    ensures { λ r. ⌜ PlainWithin (length (now (s .entry))) r ⌝ }
 {
     if byte_at(s, at) != b'-' {
         return number_at(s, at);
@@ -128,7 +134,7 @@ fn shift_at(s: &[u8], at: usize) -> Line
 
 fn letter_at(s: &[u8], at: usize) -> Line
     ensures { λ r. ⌜ front (now (s .entry)) r ≡ readLetter (drop at (now (s .entry))) ⌝ }
-    ensures { λ r. ⌜ Within (length (now (s .entry))) r ⌝ }
+    ensures { λ r. ⌜ PlainWithin (length (now (s .entry))) r ⌝ }
 {
     let b = byte_at(s, at);
     if b == b'C' {
@@ -142,7 +148,7 @@ fn letter_at(s: &[u8], at: usize) -> Line
 
 fn value_at(s: &[u8], at: usize, i: usize) -> Line
     ensures { λ r. ⌜ front (now (s .entry)) r ≡ readValue (kindOf i) (drop at (now (s .entry))) ⌝ }
-    ensures { λ r. ⌜ Within (length (now (s .entry))) r ⌝ }
+    ensures { λ r. ⌜ PlainWithin (length (now (s .entry))) r ⌝ }
 {
     if i == FORM {
         return letter_at(s, at);
@@ -178,7 +184,7 @@ fn line_at(s: &[u8], at: usize, i: usize, key: [u8; 8], n: usize) -> Line
     requires { ⌜ take n key ≡ keyOf i ⌝ }
     requires { ⌜ at ≤ length (now s) ⌝ }
     ensures { λ r. ⌜ front (now (s .entry)) r ≡ readLine i (drop at (now (s .entry))) ⌝ }
-    ensures { λ r. ⌜ Within (length (now (s .entry))) r ⌝ }
+    ensures { λ r. ⌜ PlainWithin (length (now (s .entry))) r ⌝ }
 {
     if key_at(s, at, &key[..n]) {
         return value_at(s, at + n, i);
@@ -186,18 +192,23 @@ fn line_at(s: &[u8], at: usize, i: usize, key: [u8; 8], n: usize) -> Line
     Line::Bad
 }
 
+// The answer where `line` is the first bad line.
+fn bad_line(line: usize) -> Lines
+    ensures { λ r. ⌜ r ≡ linesOf (badLine line) ⌝ }
+{
+    let verdict = Verdict::BadLine(line);
+    let values = [ZERO; CERTIFICATE_LINES];
+    Lines { verdict, values }
+}
+
 // Reads the first `count` lines, behind which nothing may stand.
 pub fn read_lines(s: &[u8], count: usize) -> Lines
     requires { ⌜ count ≤ certificateLines ⌝ }
-    ensures { λ r. ⌜ reading (r .verdict) (integers (take count (r .values))) ≡ readLines count (now (s .entry)) ⌝ }
+    ensures { λ r. ⌜ r ≡ linesOf (readLines count (now (s .entry))) ⌝ }
 {
-    let zero = Integer {
-        below: false,
-        size: 0,
-    };
     let keys = KEYS;
     let lengths = KEY_LENGTHS;
-    let mut values = [zero; CERTIFICATE_LINES];
+    let mut values = [ZERO; CERTIFICATE_LINES];
     let mut at = 0;
     let mut i = 0;
     while i < count {
@@ -210,9 +221,7 @@ pub fn read_lines(s: &[u8], count: usize) -> Lines
                 at = next;
             }
             Line::Bad => {
-                let line = i + 1;
-                let verdict = Verdict::BadLine(line);
-                return Lines { verdict, values };
+                return bad_line(i + 1);
             }
         }
         i += 1;
@@ -223,7 +232,5 @@ pub fn read_lines(s: &[u8], count: usize) -> Lines
             values,
         };
     }
-    let line = count + 1;
-    let verdict = Verdict::BadLine(line);
-    Lines { verdict, values }
+    bad_line(count + 1)
 }

@@ -1,14 +1,19 @@
 // Reads a certificate from standard input and prints that it passed, with its length, or the
-// refusal's number and line.
-//
-// No more is read than the longest certificate and one byte: what stands behind does not change the
-// answer (`cut-certificate` in crates/certificate/proofs/Promises.antt).
-use certificate::certificates;
-use libc::STDIN_FILENO;
-use text::LONGEST_CERTIFICATE;
+// refusal's number and line (`verifyPrints` of crates/report/specs/Printed.antt).
+use report::printing;
+use report::printing::LONGEST_REFUSAL;
+use report::streams;
+use report::streams::Input;
 
 fn main() {
-    let mut certificate = [0u8; LONGEST_CERTIFICATE + 1];
-    let n = io::read_full(STDIN_FILENO, &mut certificate);
-    report::checked(certificates::check(&certificate[..n]));
+    let mut certificate = streams::certificate_buffer();
+    let input = streams::read(&mut certificate);
+    match input {
+        Input::Failed => streams::unread(b"verify"),
+        Input::Bytes(n) => {
+            let mut out = [0u8; LONGEST_REFUSAL];
+            let length = printing::verify_prints(streams::first(&certificate, n), &mut out);
+            streams::print(b"verify", streams::first(&out, length));
+        }
+    }
 }

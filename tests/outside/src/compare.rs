@@ -2,7 +2,7 @@
 //! the memory in which the buffer lies.
 
 use crate::calls;
-use reference::text::{self, Answer};
+use reference::text::{self, Answer, LONGEST_CERTIFICATE};
 use std::fmt::Write;
 
 /// What a call is given.
@@ -38,8 +38,13 @@ impl Agreed {
         let mut expected = seen.clone();
         let answer = of_archive(call, buffer_in(&mut seen, room));
         let right = of_reference(call, buffer_in(&mut expected, room));
+        let report = || difference(call, room, (answer, &seen), (right, &expected));
         if answer != right || seen != expected {
-            return Err(difference(call, room, (answer, &seen), (right, &expected)));
+            return Err(report());
+        }
+        if !fits(answer, room) {
+            let rule = format!("{LONGEST_CERTIFICATE} bytes are to take every certificate\n");
+            return Err(report() + &rule);
         }
         self.calls[answer.refusal as usize] += 1;
         let written = match (call, answer.refusal) {
@@ -48,6 +53,13 @@ impl Agreed {
         };
         Ok(buffer_in(&mut seen, room)[..written].to_vec())
     }
+}
+
+/// No certificate is longer than the header's constant, and a buffer of so many
+/// bytes is never too short.
+fn fits(answer: Answer, room: usize) -> bool {
+    let too_short = answer.refusal == 12 && room >= LONGEST_CERTIFICATE;
+    answer.length <= LONGEST_CERTIFICATE as u64 && !too_short
 }
 
 /// Memory with a buffer in its middle. The bytes vary, so that one moved to

@@ -1,9 +1,9 @@
 //! What is tried of the certificate's calls, in groups.
 
 use crate::compare::{Agreed, Call};
-use crate::damage::{damaged, moved, FAULTS};
 use reference::cases::{certificates, sheets, text_of, with_figure_moved, z_section};
 use reference::chance::Chance;
+use reference::damage::{damaged, moved, FAULTS};
 use reference::edges::edges;
 use reference::finer::failures;
 use reference::generate::sections;

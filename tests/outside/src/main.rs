@@ -8,7 +8,6 @@
 
 mod calls;
 mod compare;
-mod damage;
 mod exact;
 mod groups;
 mod near;

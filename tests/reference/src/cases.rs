@@ -6,7 +6,7 @@
 use crate::generate::needed_allowance;
 use crate::named::{LIP_LONG_ON_MID_LINES, SHEET_A, SHEET_B};
 use crate::sheet::{ask_numbers, Sheet};
-use crate::text::{certificate_text, sheet_text, FIGURE_KEYS, SHEET_KEYS};
+use crate::text::{certificate_lines, certificate_text, sheet_text, FIGURE_KEYS, SHEET_KEYS};
 
 /// What a text is meant to show.
 #[derive(Clone, Copy, Debug, PartialEq, Eq)]
@@ -46,6 +46,27 @@ pub fn text_of(sheet: Sheet) -> String {
 /// The certificate of a sheet that is accepted.
 pub fn certificate_of(sheet: Sheet) -> String {
     certificate_text(&ask_numbers(sheet.numbers()).expect("an accepted sheet"))
+}
+
+/// The greatest number that can be spelt.
+const TEN_DIGITS: u64 = 9_999_999_999;
+
+const LONGEST_NUMBERS: [u64; 12] = {
+    let mut numbers = [TEN_DIGITS; 12];
+    numbers[0] = 1;
+    numbers
+};
+
+/// The longest text that is spelt as a sheet is.
+pub fn longest_sheet() -> String {
+    sheet_text(LONGEST_NUMBERS)
+}
+
+/// The longest text that is spelt as a certificate is.
+pub fn longest_certificate() -> String {
+    let figure = TEN_DIGITS as i128;
+    let figures = [figure, figure, figure, figure, -figure, -figure];
+    certificate_lines(LONGEST_NUMBERS, figures)
 }
 
 /// The sheet with some values changed, as "b1=12000 c=2800".
@@ -243,6 +264,19 @@ fn order() -> Vec<Case> {
         sheet_case("09_before_10", meeting, refused(9, 3)),
         sheet_case("10_before_11", with(b, "h=4159 allow=0"), refused(10, 5)),
     ]
+}
+
+/// The text with each of its lines, the newline left aside, changed in turn.
+pub fn each_line_changed(text: &str, change: impl Fn(&str) -> String) -> Vec<String> {
+    let lines: Vec<&str> = text.lines().collect();
+    let mut texts = Vec::new();
+    for (i, line) in lines.iter().enumerate() {
+        let changed = change(line);
+        let mut all = lines.clone();
+        all[i] = &changed;
+        texts.push(all.join("\n") + "\n");
+    }
+    texts
 }
 
 /// A text without one of its lines.

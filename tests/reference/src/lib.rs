@@ -15,6 +15,7 @@ pub mod finer;
 // Sheets and texts to try, with fixed or given seeds.
 pub mod cases;
 pub mod chance;
+pub mod damage;
 pub mod edges;
 pub mod generate;
 pub mod kinds;

@@ -11,8 +11,10 @@ pub const SHEET_KEYS: [&str; 12] = [
 /// Keys of a certificate's further lines, in order.
 pub const FIGURE_KEYS: [&str; 6] = ["area", "axial", "chi1", "chi2", "shiftlo", "shifthi"];
 
-/// No certificate is longer: each number has at most ten digits, and a shift a
-/// minus.
+/// No sheet that is spelt right is longer: each number has at most ten digits.
+pub const LONGEST_SHEET: usize = 168;
+
+/// No certificate is longer: a shift may have a minus, too.
 pub const LONGEST_CERTIFICATE: usize = 273;
 
 /// What a call returns, as include/certificate.h has it: 0 or the number of the
@@ -160,13 +162,17 @@ pub fn sheet_text(numbers: [u64; 12]) -> String {
     text
 }
 
-/// The eighteen lines of a certificate.
-pub fn certificate_text(accepted: &Accepted) -> String {
-    let mut text = sheet_text(accepted.sheet.numbers());
-    for (key, number) in FIGURE_KEYS.iter().zip(accepted.figures.numbers()) {
-        text += &format!("{key}={number}\n");
+/// The eighteen lines of a certificate, of any numbers.
+pub fn certificate_lines(numbers: [u64; 12], figures: [i128; 6]) -> String {
+    let mut text = sheet_text(numbers);
+    for (key, figure) in FIGURE_KEYS.iter().zip(figures) {
+        text += &format!("{key}={figure}\n");
     }
     text
+}
+
+pub fn certificate_text(accepted: &Accepted) -> String {
+    certificate_lines(accepted.sheet.numbers(), accepted.figures.numbers())
 }
 
 /// Question 12; the buffer is written where it is met.

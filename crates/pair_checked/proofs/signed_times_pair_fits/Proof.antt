@@ -1,6 +1,7 @@
 -- `pair_checked::signed_times_pair_fits` meets its contract.
 use mathlib.Core.Path.{_∙_, ap}
 use Rattle.pair.specs.Fits.{signedTimesFits}
+use Rattle.pair.proofs.SignedForms.{pair-means}
 use borrow.Author.Needs.{needs}
 use Rattle.pair_checked.proofs.signed_times_pair_fits.Statement.{statement}
 use Rattle.pair_checked.proofs.signed_times_pair_fits.Tie as tie
@@ -12,7 +13,7 @@ signed-times-fits-requires : tie.Need-signed-times-fits-requires
 signed-times-fits-requires c κs = search needs
 
 returns : tie.Need-returns
-returns c = c .signed-times-fits .ensures ∙ ap (signedTimesFits _ _) (c .before .of .ensures)
+returns c = c .signed-times-fits .ensures ∙ ap (signedTimesFits _ _) (pair-means (c .before .of .ensures))
 
 pub signed-times-pair-fits-spec : {M : Type 1} → statement M
 signed-times-pair-fits-spec = tie.close (tie.spec of-requires signed-times-fits-requires returns)

@@ -1,8 +1,10 @@
 -- `certificate::certificates::check` meets its contract.
 use borrow.Author.Needs.{needs}
 use mathlib.Core.Path.{_≡_, _∙_}
+use Rattle.text.specs.Keys.{certificateLines}
+use Rattle.text.proofs.Theorems.{verdict-right, verdict-bad}
 use Rattle.certificate.specs.Outcome.{checked}
-use Rattle.certificate.proofs.OutcomeSteps.{read-bad, bad-certificate, found-in-lines, answers-unlike, answers-passed}
+use Rattle.certificate.proofs.OutcomeSteps.{bad-certificate, found-in-lines, answers-unlike, answers-passed}
 use Rattle.certificate.proofs.certificates.check.Statement.{statement}
 use Rattle.certificate.proofs.certificates.check.Tie as tie
 
@@ -36,14 +38,15 @@ answer-requires c κs = search needs
 returns : tie.Need-returns
 returns c =
     let r = c .before .before .before .before .before .read-lines in
-    answers-unlike (c .before .before .before .before .before .before .before .args .certificate .now) _ _ _
-    (bad-certificate _ _ (read-bad (r .result .verdict) _ _ _ (r .ensures) (c .before .before .verdict .given .1))) (c .told-of .ensures)
+    let bytes = c .before .before .before .before .before .before .before .args .certificate .now in
+    answers-unlike bytes _ _ _
+    (bad-certificate bytes _ (verdict-bad certificateLines bytes (r .ensures) (c .before .before .verdict .given .1))) (c .told-of .ensures)
 
 -- what is found where all lines are right
 found : (c : tie.After-compared) → checked (c .before .before .before .before .before .before .args .certificate .now) ≡ c .compared .result
 found c =
-    let r = c .before .before .before .before .read-lines in
-    found-in-lines _ (r .result .verdict) _ _ (r .ensures) (c .before .enum-told .given .1) (c .compared .ensures)
+    let bytes = c .before .before .before .before .before .before .args .certificate .now in
+    found-in-lines bytes _ _ (verdict-right certificateLines bytes (c .before .before .before .before .read-lines .ensures) (c .before .enum-told .given .1)) (c .compared .ensures)
 
 returns-2 : tie.Need-returns-2
 returns-2 c = answers-unlike _ _ _ _ (found (c .before .before .before .before) ∙ c .before .before .found .given .1) (c .told-of2 .ensures)

@@ -7,9 +7,10 @@ use lib.ListN.{length, drop}
 use Rattle.section.specs.declared.Sheet.{Sheet}
 use Rattle.text.specs.Keys.{sheetLines, certificateLines}
 use Rattle.text.specs.Forms.{integers}
-use Rattle.certificate.specs.Questions.{firstOf, firstIn}
+use Rattle.certificate.specs.Questions.{firstOf, firstIn, verdict}
+use Rattle.certificate.specs.Certificates.{certificateValues}
 use Rattle.certificate.specs.Outcome.{agreeing, checking}
-use Rattle.certificate.proofs.Shown.{behind-sheet}
+use Rattle.certificate.proofs.Shown.{integers-of, behind-sheet}
 use Rattle.certificate.proofs.OutcomeSteps.{found-in-array, judged-refusal, judged-figures, refused-checking, figures-asked}
 use Rattle.certificate.proofs.certificates.compared.Statement.{statement}
 use Rattle.certificate.proofs.certificates.compared.Tie as tie
@@ -30,7 +31,8 @@ enum-known-verdict-2 : tie.Need-enum-known-verdict-2
 enum-known-verdict-2 c = search needs
 
 line-values-requires : tie.Need-line-values-requires
-line-values-requires c κs = search needs
+line-values-requires c κs =
+    judged-figures (c .before .before .before .before .sheet-shown .result) (c .before .before .before .verdict-of .ensures) (c .before .verdict2 .given .1) .1
 
 first-unlike-requires : tie.Need-first-unlike-requires
 first-unlike-requires c κs = search needs
@@ -39,18 +41,19 @@ returns : tie.Need-returns
 returns c =
     let vs = integers (c .before .before .before .before .before .args .shown) in
     let shown = c .before .before .before .before .sheet-shown in
-    sym (refused-checking (shown .result) vs (judged-refusal (c .before .before .before .verdict-of .ensures) (c .before .verdict .given .1)))
+    sym (refused-checking (shown .result) vs (judged-refusal (verdict (shown .result)) (c .before .before .before .verdict-of .ensures) (c .before .verdict .given .1)))
     ∙ ap (λ (q : Sheet). firstIn (checking vs q)) (shown .ensures)
     ∙ sym (found-in-array (c .before .before .before .before .before .args .shown) (count (c .before .before .before .before .before)))
 
 returns-2 : tie.Need-returns-2
+unfolding certificateValues
 returns-2 c =
     let vs = integers (c .before .before .before .before .before .before .before .args .shown) in
     let shown = c .before .before .before .before .before .before .sheet-shown in
-    let found = judged-figures (c .before .before .before .before .before .verdict-of .ensures) (c .before .before .before .verdict2 .given .1) in
+    let found = judged-figures (shown .result) (c .before .before .before .before .before .verdict-of .ensures) (c .before .before .before .verdict2 .given .1) in
     c .first-unlike .ensures
-    ∙ ap (λ (ws : List ℤ). firstOf (agreeing 13 (drop sheetLines vs) ws)) (ap (drop sheetLines) (c .before .line-values .ensures) ∙ behind-sheet (shown .result) _)
-    ∙ sym (figures-asked (shown .result) vs found)
+    ∙ ap (λ (ws : List ℤ). firstOf (agreeing 13 (drop sheetLines vs) ws)) (ap (drop sheetLines) (integers-of (certificateValues (shown .result)) (c .before .line-values .ensures)) ∙ behind-sheet (shown .result) _)
+    ∙ sym (figures-asked (shown .result) vs (found .0))
     ∙ ap (λ (q : Sheet). firstIn (checking vs q)) (shown .ensures)
     ∙ sym (found-in-array (c .before .before .before .before .before .before .before .args .shown) (count (c .before .before .before .before .before .before .before)))
 

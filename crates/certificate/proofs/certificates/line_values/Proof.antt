@@ -2,7 +2,7 @@
 use borrow.Author.Needs.{needs}
 use Rattle.section.proofs.PrintedFigures.{area-of-form, axial-of-form, chi1-of-form, chi2-of-form, shiftlo-of-form, shifthi-of-form}
 use Rattle.certificate.specs.Questions.{values}
-use Rattle.certificate.specs.Certificates.{sheetValues, figureValues}
+use Rattle.certificate.specs.Certificates.{sheetValues, figureValues, certificateValues}
 use Rattle.certificate.proofs.certificates.line_values.Statement.{statement}
 use Rattle.certificate.proofs.certificates.line_values.Tie as tie
 
@@ -55,9 +55,9 @@ number-requires-16 : tie.Need-number-requires-16
 number-requires-16 c κs = search needs
 
 returns : tie.Need-returns
-unfolding sheetValues values figureValues
+unfolding sheetValues values figureValues certificateValues
 returns c =
-    let f = c .before .before .before .before .before .before .before .before .before .before .before .before .before .before .before .before .before .before .before .before .args .f in
+    let s = c .before .before .before .before .before .before .before .before .before .before .before .before .before .before .before .before .before .before .before .before in
     rw (
       c .number16 .ensures,
       c .before .number15 .ensures,
@@ -75,13 +75,9 @@ returns c =
       c .before .before .before .before .before .before .before .before .before .before .before .before .before .number3 .ensures,
       c .before .before .before .before .before .before .before .before .before .before .before .before .before .before .number2 .ensures,
       c .before .before .before .before .before .before .before .before .before .before .before .before .before .before .before .number .ensures,
-      area-of-form f,
-      axial-of-form f,
-      chi1-of-form f,
-      chi2-of-form f,
-      shiftlo-of-form f,
-      shifthi-of-form f,
+      s .pre,
     )
+    (simp (area-of-form, axial-of-form, chi1-of-form, chi2-of-form, shiftlo-of-form, shifthi-of-form))
 
 pub line-values-spec : {M : Type 1} → statement M
 line-values-spec =

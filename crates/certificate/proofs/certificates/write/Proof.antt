@@ -5,10 +5,11 @@ use lib.ListN.{length}
 use Rattle.section.specs.declared.Sheet.{Sheet}
 use Rattle.text.specs.Keys.{sheetLines}
 use Rattle.text.specs.Forms.{integers}
+use Rattle.text.proofs.Theorems.{verdict-right, verdict-bad}
 use Rattle.certificate.specs.Certificates.{sheetShown}
 use Rattle.certificate.specs.Outcome.{Outcome, outcomeOf, answerOf, bufferAfter}
 use Rattle.certificate.proofs.Shown.{front-shown, integers-front}
-use Rattle.certificate.proofs.OutcomeSteps.{read-bad, read-right, bad-sheet, right-sheet, answers-refusal}
+use Rattle.certificate.proofs.OutcomeSteps.{bad-sheet, right-sheet, answers-refusal}
 use Rattle.certificate.proofs.certificates.write.Statement.{statement}
 use Rattle.certificate.proofs.certificates.write.Tie as tie
 
@@ -35,7 +36,7 @@ returns c =
     let a = c .before .before .before .before .before .before .before .before .args in
     let r = c .before .before .before .before .before .read-lines in
     answers-refusal _ _ (a .buffer .now) _
-    (bad-sheet (a .sheet .now) (length (a .buffer .now)) _ (read-bad (r .result .verdict) _ _ _ (r .ensures) (c .before .before .verdict .given .1))) (c .told-of .ensures)
+    (bad-sheet (a .sheet .now) (length (a .buffer .now)) _ (verdict-bad sheetLines (a .sheet .now) (r .ensures) (c .before .before .verdict .given .1))) (c .told-of .ensures)
 
 same-length : tie.Need-same-length
 same-length c = search needs
@@ -47,7 +48,7 @@ returns-2 c =
     let r = c .before .before .before .before .before .before .before .before .read-lines in
     let o =
     ap (λ (q : Sheet). outcomeOf q (length b)) (c .before .before .before .before .sheet-shown .ensures ∙ sym (ap sheetShown (integers-front sheetLines (r .result .values)) ∙ front-shown (integers (r .result .values))))
-    ∙ sym (right-sheet (a .sheet .now) (length b) _ (read-right (r .result .verdict) _ _ (r .ensures) (c .before .before .before .before .before .enum-told .given .1))) in
+    ∙ sym (right-sheet (a .sheet .now) (length b) _ (verdict-right sheetLines (a .sheet .now) (r .ensures) (c .before .before .before .before .before .enum-told .given .1))) in
     let w = c .before .before .write-sheet .ensures in
     (w .0 ∙ ap answerOf o, w .1 ∙ ap (λ (x : Outcome). bufferAfter x b) o)
 

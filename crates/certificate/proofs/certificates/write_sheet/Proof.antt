@@ -7,7 +7,10 @@ use lib.IntN.{ℤ}
 use lib.ListN.{length}
 use Rattle.text.specs.Keys.{certificateLines}
 use Rattle.text.specs.Lines.{linesText, longest}
+use Rattle.certificate.specs.Questions.{verdict}
+use Rattle.certificate.specs.Certificates.{certificateValues}
 use Rattle.certificate.specs.Outcome.{Outcome, fitted, answerOf, bufferAfter}
+use Rattle.certificate.proofs.Shown.{integers-of}
 use Rattle.certificate.proofs.OutcomeSteps.{judged-refusal, judged-figures, refused-by-verdict, room-asked, accepted-length, answers-refusal}
 use Rattle.certificate.proofs.certificates.write_sheet.Statement.{statement}
 use Rattle.certificate.proofs.certificates.write_sheet.Tie as tie
@@ -25,30 +28,34 @@ enum-known-verdict-2 : tie.Need-enum-known-verdict-2
 enum-known-verdict-2 c = search needs
 
 line-values-requires : tie.Need-line-values-requires
-line-values-requires c κs = search needs
+line-values-requires c κs =
+    let s = c .before .before .before .before .before in
+    judged-figures (s .args .q) (c .before .before .before .verdict-of .ensures) (c .before .verdict2 .given .1) .1
 
 put-requires : tie.Need-put-requires
+unfolding certificateValues
 put-requires c κs =
     let s = c .before .before .before .before .before .before .before in
-    subst (λ (vs : List ℤ). length (linesText vs) ≤ longest certificateLines) (sym (c .before .line-values .ensures))
-    (accepted-length (s .args .q) (judged-figures (c .before .before .before .before .before .verdict-of .ensures) (c .before .before .before .verdict2 .given .1)))
+    subst (λ (vs : List ℤ). length (linesText vs) ≤ longest certificateLines) (sym (integers-of (certificateValues (s .args .q)) (c .before .line-values .ensures)))
+    (accepted-length (s .args .q) (judged-figures (s .args .q) (c .before .before .before .before .before .verdict-of .ensures) (c .before .before .before .verdict2 .given .1) .0))
 
 returns : tie.Need-returns
 returns c =
     let a = c .before .before .before .before .before .before .args in
     answers-refusal _ _ (a .buffer .now) _
-    (refused-by-verdict (a .q) (length (a .buffer .now)) (judged-refusal (c .before .before .before .before .verdict-of .ensures) (c .before .before .verdict .given .1))) (c .told-of .ensures)
+    (refused-by-verdict (a .q) (length (a .buffer .now)) (judged-refusal (verdict (a .q)) (c .before .before .before .before .verdict-of .ensures) (c .before .before .verdict .given .1))) (c .told-of .ensures)
 
 same-length : tie.Need-same-length
 same-length c = search needs
 
 returns-2 : tie.Need-returns-2
+unfolding certificateValues
 returns-2 c =
     let a = c .before .before .before .before .before .before .before .before .before .before .args in
     let b = a .buffer .now in
     let o =
-    ap (λ (vs : List ℤ). fitted (length b) (linesText vs)) (c .before .before .before .before .line-values .ensures)
-    ∙ sym (room-asked (a .q) (length b) (judged-figures (c .before .before .before .before .before .before .before .before .verdict-of .ensures) (c .before .before .before .before .before .before .verdict2 .given .1))) in
+    ap (λ (vs : List ℤ). fitted (length b) (linesText vs)) (integers-of (certificateValues (a .q)) (c .before .before .before .before .line-values .ensures))
+    ∙ sym (room-asked (a .q) (length b) (judged-figures (a .q) (c .before .before .before .before .before .before .before .before .verdict-of .ensures) (c .before .before .before .before .before .before .verdict2 .given .1) .0)) in
     let w = c .before .before .put .ensures in
     (w .0 ∙ ap answerOf o, w .1 ∙ ap (λ (x : Outcome). bufferAfter x b) o)
 

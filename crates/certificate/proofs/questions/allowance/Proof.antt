@@ -1,8 +1,8 @@
 -- `certificate::questions::allowance` meets its contract.
-use mathlib.Core.Path.{ap, sym, _∙_}
-use Rattle.section.specs.Figures.{Printed}
+use mathlib.Core.Path.{ap, _∙_}
+use Rattle.section.specs.declared.Figures.{Figures}
+use Rattle.section.specs.Figures.{figures}
 use Rattle.section.proofs.PrintedFigures.{area-of-form}
-use Rattle.certificate.specs.Questions.{judgedOf}
 use Rattle.certificate.proofs.Steps.{within, beyond}
 use borrow.Author.Needs.{needs}
 use Rattle.certificate.proofs.questions.allowance.Statement.{statement}
@@ -16,14 +16,13 @@ figures-of-requires c κs = search needs
 
 within-allowance-requires : tie.Need-within-allowance-requires
 within-allowance-requires c κs =
-    let area = sym (area-of-form (c .figures-of .result)) ∙ ap (λ (p : Printed). p .area) (c .figures-of .ensures) in
+    let area = ap (λ (f : Figures). f .area) (c .figures-of .ensures) ∙ area-of-form (figures 1 (c .before .before .args .q)) in
     (search needs, search needs, search needs, area)
 
 returns : tie.Need-returns
-returns c = within _ (c .before .before .figures-of .result) (c .before .within-allowance .ensures) (c .if1 .taken) (c .before .before .figures-of .ensures)
+returns c = within _ (c .before .within-allowance .ensures) (c .if1 .taken) (c .before .before .figures-of .ensures)
 
 returns-2 : tie.Need-returns-2
-unfolding judgedOf
 returns-2 c = beyond _ (c .before .within-allowance .ensures) (c .if1 .left)
 
 pub allowance-spec : {M : Type 1} → statement M

@@ -1,6 +1,5 @@
 -- `certificate::questions::verdict_of` meets its contract.
 use mathlib.Core.Path.{sym, _∙_}
-use Rattle.certificate.specs.Questions.{judgedOf}
 use Rattle.certificate.proofs.Theorems.{met-is-sound}
 use Rattle.certificate.proofs.Steps.{refused-before, passed-before}
 use borrow.Author.Needs.{needs}
@@ -20,7 +19,6 @@ allowance-requires : tie.Need-allowance-requires
 allowance-requires c κs = met-is-sound _ .0 (sym (c .before .before .first-refusal .ensures) ∙ c .enum-told .given .1)
 
 returns : tie.Need-returns
-unfolding judgedOf
 returns c = refused-before _ (c .before .before .before .first-refusal .ensures) (c .before .found .given .1)
 
 returns-2 : tie.Need-returns-2

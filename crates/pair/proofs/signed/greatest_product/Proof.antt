@@ -1,8 +1,9 @@
 -- `pair::signed::greatest_product` meets its contract.
 use borrow.Author.Needs.{needs}
-use Rattle.pair.specs.SignedPairs.{meaning, signedTimes}
+use mathlib.Core.Path.{ap}
+use Rattle.pair.specs.SignedPairs.{meaning, plain, signedTimes}
 use Rattle.pair.proofs.SignedBounds.{TimesRoom, times-room}
-use Rattle.pair.proofs.IntegerForms.{low-reach, high-reach}
+use Rattle.pair.proofs.IntegerForms.{plain-means, low-reach, high-reach}
 use Rattle.pair.proofs.SignedForms.{times-word, ceil-product}
 use Rattle.pair.proofs.signed.greatest_product.Statement.{statement}
 use Rattle.pair.proofs.signed.greatest_product.Tie as tie
@@ -44,9 +45,9 @@ unfolding signedTimes meaning
 returns c =
     let f = c .before .before .before .before in
     let s = f .before .before .before .before .before .before .before in
-    rw
-    (c .greatest3 .ensures, c .before .greatest2 .ensures, f .greatest .ensures, c .before .before .ceil-product4 .ensures, c .before .before .before .ceil-product3 .ensures, f .before .ceil-product2 .ensures, f .before .before .ceil-product .ensures)
-    (ceil-product (meaning (s .args .a)) (meaning (s .args .b)) (room s .scale))
+    simp
+    (c .greatest3 .ensures, c .before .greatest2 .ensures, f .greatest .ensures, c .before .before .ceil-product4 .ensures, c .before .before .before .ceil-product3 .ensures, f .before .ceil-product2 .ensures, f .before .before .ceil-product .ensures, plain-means)
+    (ap plain (ceil-product (meaning (s .args .a)) (meaning (s .args .b)) (room s .scale)))
 
 pub greatest-product-spec : {M : Type 1} → statement M
 greatest-product-spec =

@@ -1,8 +1,9 @@
 -- `pair::signed::least_product` meets its contract.
 use borrow.Author.Needs.{needs}
-use Rattle.pair.specs.SignedPairs.{meaning, signedTimes}
+use mathlib.Core.Path.{ap}
+use Rattle.pair.specs.SignedPairs.{meaning, plain, signedTimes}
 use Rattle.pair.proofs.SignedBounds.{TimesRoom, times-room}
-use Rattle.pair.proofs.IntegerForms.{low-reach, high-reach}
+use Rattle.pair.proofs.IntegerForms.{plain-means, low-reach, high-reach}
 use Rattle.pair.proofs.SignedForms.{times-word, floor-product}
 use Rattle.pair.proofs.signed.least_product.Statement.{statement}
 use Rattle.pair.proofs.signed.least_product.Tie as tie
@@ -44,9 +45,9 @@ unfolding signedTimes meaning
 returns c =
     let f = c .before .before .before .before in
     let s = f .before .before .before .before .before .before .before in
-    rw
-    (c .least3 .ensures, c .before .least2 .ensures, f .least .ensures, c .before .before .floor-product4 .ensures, c .before .before .before .floor-product3 .ensures, f .before .floor-product2 .ensures, f .before .before .floor-product .ensures)
-    (floor-product (meaning (s .args .a)) (meaning (s .args .b)) (room s .scale))
+    simp
+    (c .least3 .ensures, c .before .least2 .ensures, f .least .ensures, c .before .before .floor-product4 .ensures, c .before .before .before .floor-product3 .ensures, f .before .floor-product2 .ensures, f .before .before .floor-product .ensures, plain-means)
+    (ap plain (floor-product (meaning (s .args .a)) (meaning (s .args .b)) (room s .scale)))
 
 pub least-product-spec : {M : Type 1} → statement M
 least-product-spec =

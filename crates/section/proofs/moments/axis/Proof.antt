@@ -1,4 +1,5 @@
 -- `section::moments::axis` meets its contract.
+use Rattle.pair.proofs.SignedForms.{plain-pair-means}
 use Rattle.section.specs.Working.{z}
 use borrow.Author.Needs.{needs}
 use Rattle.section.proofs.moments.axis.Statement.{statement}
@@ -11,11 +12,11 @@ mul-over : tie.Need-mul-over
 mul-over c = search needs
 
 over-requires : tie.Need-over-requires
-over-requires c κs = rw (c .first-moment .ensures, c .before .pre .1) (c .before .pre .0 .quotient)
+over-requires c κs = rw (c .first-moment .ensures, plain-pair-means, c .before .pre .1) (c .before .pre .0 .quotient)
 
 returns : tie.Need-returns
 unfolding z
-returns c = rw (c .over .ensures, c .before .first-moment .ensures, c .before .before .pre .1)
+returns c = rw (c .over .ensures, c .before .first-moment .ensures, plain-pair-means, c .before .before .pre .1)
 
 pub axis-spec : {M : Type 1} → statement M
 axis-spec =

@@ -1,6 +1,8 @@
 -- `section::moments::lip_moment` meets its contract.
-use mathlib.Core.Path.{_∙_}
+use mathlib.Core.Path.{ap, _∙_}
+use Rattle.pair.proofs.SignedForms.{plain-pair-means}
 use Rattle.pair.proofs.SignedProducts.{signed-times-comm}
+use Rattle.pair.specs.SignedPairs.{plainPair}
 use Rattle.section.specs.Working.{lip-moment}
 use borrow.Author.Needs.{needs}
 use Rattle.section.proofs.moments.lip_moment.Statement.{statement}
@@ -21,13 +23,12 @@ between-requires : tie.Need-between-requires
 between-requires c κs = search needs
 
 times-requires-2 : tie.Need-times-requires-2
-times-requires-2 c κs = rw (c .between .ensures, c .before .over-ratio .ensures, c .before .before .times .ensures) (c .before .before .before .pre .product)
+times-requires-2 c κs = rw (c .between .ensures, plain-pair-means, c .before .over-ratio .ensures, c .before .before .times .ensures) (c .before .before .before .pre .product)
 
 returns : tie.Need-returns
 unfolding lip-moment
 returns c =
-    let start = c .before .before .before .before in
-    c .times2 .ensures ∙ rw (c .before .between .ensures, c .before .before .over-ratio .ensures, c .before .before .before .times .ensures) (signed-times-comm _ _ _)
+    c .times2 .ensures ∙ rw (c .before .between .ensures, plain-pair-means, c .before .before .over-ratio .ensures, c .before .before .before .times .ensures) (ap plainPair (signed-times-comm _ _ _))
 
 pub lip-moment-spec : {M : Type 1} → statement M
 lip-moment-spec =

@@ -1,4 +1,5 @@
 -- `section::moments::with_web` meets its contract.
+use Rattle.pair.proofs.SignedForms.{plain-pair-means}
 use borrow.Author.Needs.{needs}
 use Rattle.section.proofs.moments.with_web.Statement.{statement}
 use Rattle.section.proofs.moments.with_web.Tie as tie
@@ -13,10 +14,10 @@ near-web-moment-requires : tie.Need-near-web-moment-requires
 near-web-moment-requires c κs = search needs
 
 with-pair-requires-2 : tie.Need-with-pair-requires-2
-with-pair-requires-2 c κs = rw (c .before .with-pair .ensures, c .near-web-moment .ensures, c .before .before .far-web-moment .ensures) (c .before .before .before .pre .second)
+with-pair-requires-2 c κs = rw (c .before .with-pair .ensures, plain-pair-means, c .near-web-moment .ensures, c .before .before .far-web-moment .ensures) (c .before .before .before .pre .second)
 
 returns : tie.Need-returns
-returns c = rw (c .with-pair2 .ensures, c .before .near-web-moment .ensures, c .before .before .with-pair .ensures, c .before .before .before .far-web-moment .ensures)
+returns c = rw (c .with-pair2 .ensures, c .before .near-web-moment .ensures, c .before .before .with-pair .ensures, plain-pair-means, c .before .before .before .far-web-moment .ensures)
 
 pub with-web-spec : {M : Type 1} → statement M
 with-web-spec =

@@ -3,10 +3,12 @@ use mathlib.Core.Path.{ap, _∙_}
 use Prim.Native.Nat.{_*_, _/_}
 use lib.IntN.{pos, _*ℤ_}
 use Rattle.pair.specs.Integers.{floorOver, ceilOver}
-use Rattle.section.specs.Working.{S, Worked}
+use Rattle.pair.specs.SignedPairs.{SignedPair, plain}
+use Rattle.section.specs.declared.Work.{Work}
+use Rattle.section.specs.Working.{S, worked}
 use Rattle.section.specs.Figures.{printed, figures}
-use Rattle.section.specs.Forms.{workedOf, printedOf}
-use Rattle.section.proofs.Printing.{area-fits}
+use Rattle.section.specs.Forms.{workOf, figuresOf}
+use Rattle.section.proofs.Printing.{shift-of, area-fits}
 use borrow.Author.Needs.{needs}
 use Rattle.section.proofs.sections.figures_of.Statement.{statement}
 use Rattle.section.proofs.sections.figures_of.Tie as tie
@@ -17,7 +19,7 @@ lower-part-requires c κs = search needs
 axial-requires : tie.Need-axial-requires
 axial-requires c κs =
     let start = c .before .before .before .before .before in
-    (start .pre .0, start .pre .1, area-fits (start .args .w) (start .pre .0) (start .pre .1) (start .pre .2) .0)
+    (start .pre .0, start .pre .1, area-fits (start .pre .0) (start .pre .1) (start .pre .2) .0)
 
 lower-part-requires-2 : tie.Need-lower-part-requires-2
 lower-part-requires-2 c κs = search needs
@@ -32,19 +34,20 @@ upper-shift-requires : tie.Need-upper-shift-requires
 upper-shift-requires c κs = search needs
 
 returns : tie.Need-returns
-unfolding printed figures workedOf printedOf
+unfolding printed figures workOf figuresOf
 returns c =
     let start = c .before .before .before .before .before .before .before .before .before .before in
     let n = start .args .n in
     let q = start .args .q in
     let e = start .pre .2 in
+    let shift = shift-of (worked n q) e in
     λ i. record {
-      area = (c .before .before .before .before .before .lower-part .ensures ∙ ap (λ (x : Worked). x .area .lo * 100 / S n) e) i;
-      axial = (c .before .before .before .before .axial .ensures ∙ ap (λ (x : Worked). x .area .lo * q .fyb * 1000 / (q .gm0 * S n)) e) i;
-      chi1 = (c .before .before .before .lower-part2 .ensures ∙ ap (λ (x : Worked). x .χ₁ .lo * 1000 / S n) e) i;
-      chi2 = (c .before .before .lower-part3 .ensures ∙ ap (λ (x : Worked). x .χ₂ .lo * 1000 / S n) e) i;
-      shiftlo = (c .before .lower-shift .ensures ∙ ap (λ (x : Worked). floorOver (x .shift .lo *ℤ pos 100) (S n)) e) i;
-      shifthi = (c .upper-shift .ensures ∙ ap (λ (x : Worked). ceilOver (x .shift .hi *ℤ pos 100) (S n)) e) i;
+      area = (c .before .before .before .before .before .lower-part .ensures ∙ ap (λ (x : Work). x .area .lo * 100 / S n) e) i;
+      axial = (c .before .before .before .before .axial .ensures ∙ ap (λ (x : Work). x .area .lo * q .fyb * 1000 / (q .gm0 * S n)) e) i;
+      chi1 = (c .before .before .before .lower-part2 .ensures ∙ ap (λ (x : Work). x .chi1 .lo * 1000 / S n) e) i;
+      chi2 = (c .before .before .lower-part3 .ensures ∙ ap (λ (x : Work). x .chi2 .lo * 1000 / S n) e) i;
+      shiftlo = (c .before .lower-shift .ensures ∙ ap (λ (x : SignedPair). plain (floorOver (x .lo *ℤ pos 100) (S n))) shift) i;
+      shifthi = (c .upper-shift .ensures ∙ ap (λ (x : SignedPair). plain (ceilOver (x .hi *ℤ pos 100) (S n))) shift) i;
     }
 
 pub figures-of-spec : {M : Type 1} → statement M

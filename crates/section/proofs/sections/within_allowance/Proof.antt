@@ -2,6 +2,7 @@
 use Prim.Native.Nat.{_+_}
 use native.Mathlib.Nat.{mul-le-mul-left}
 use native.Mathlib.Omega.{arith}
+use Rattle.section.specs.Working.{worked}
 use Rattle.section.specs.Figures.{allowed}
 use Rattle.section.proofs.Printing.{area-of, area-fits, printed-area}
 use borrow.Author.Needs.{needs}
@@ -11,7 +12,7 @@ use Rattle.section.proofs.sections.within_allowance.Tie as tie
 mul-result : tie.Need-mul-result
 mul-result c =
     let start = c .before .before in
-    omega (arith, start .pre .0 .most, area-fits (start .args .w) (start .pre .0) (start .pre .1) (start .pre .2) .1)
+    omega (arith, start .pre .0 .most, area-fits (start .pre .0) (start .pre .1) (start .pre .2) .1)
 
 add-result : tie.Need-add-result
 add-result c =
@@ -30,7 +31,7 @@ returns : tie.Need-returns
 unfolding allowed
 returns c =
     let start = c .before .before .before in
-    rw (start .pre .3, area-of (start .args .w) (start .pre .2))
+    rw (start .pre .3, area-of (worked (start .args .n) (start .args .q)) (start .pre .2))
 
 pub within-allowance-spec : {M : Type 1} → statement M
 within-allowance-spec =

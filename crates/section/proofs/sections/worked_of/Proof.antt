@@ -1,11 +1,12 @@
 -- `section::sections::worked_of` meets its contract.
 use mathlib.Core.Path.{ap, _∙_}
 use Rattle.pair.specs.Pairs.{times}
-use Rattle.pair.specs.SignedPairs.{signedMinus}
+use Rattle.pair.specs.SignedPairs.{plainPair, signedMinus}
 use Rattle.pair.specs.declared.Pair.{Pair}
+use Rattle.pair.proofs.SignedForms.{plain-pair-means, pair-means}
 use Rattle.section.specs.declared.Kept.{Kept}
 use Rattle.section.specs.Working.{S, mm, L, z, worked}
-use Rattle.section.specs.Forms.{workedOf}
+use Rattle.section.specs.Forms.{workOf}
 use Rattle.section.proofs.sections.worked_of.Statement.{statement}
 use Rattle.section.proofs.sections.worked_of.Tie as tie
 
@@ -31,25 +32,25 @@ axis-requires-2 c κs =
 minus-requires : tie.Need-minus-requires
 minus-requires c κs =
     let start = c .before .before .before .before .before .before .before .before in
-    rw (c .axis2 .ensures, c .before .before .axis .ensures, start .pre .1, start .pre .2, start .pre .3) (start .pre .0 .shift)
+    simp (c .axis2 .ensures, c .before .before .axis .ensures, plain-pair-means, start .pre .1, start .pre .2, start .pre .3) (start .pre .0 .shift)
 
 returns : tie.Need-returns
-unfolding worked workedOf
+unfolding worked workOf
 returns c =
     let start = c .before .before .before .before .before .before .before .before .before in
     let n = start .args .n in
     let hp = start .pre .1 in
     let e = start .pre .2 in
-    let axis = c .before .before .before .axis .ensures ∙ (λ i. z n (hp i) (e i)) in
-    let gross = c .before .axis2 .ensures ∙ (λ i. z n (hp i) (start .pre .3 i)) in
+    let axis = c .before .before .before .axis .ensures ∙ (λ i. plainPair (z n (hp i) (e i))) in
+    let gross = c .before .axis2 .ensures ∙ (λ i. plainPair (z n (hp i) (start .pre .3 i))) in
     let length = c .before .before .before .before .before .length .ensures ∙ ap (λ (x : Kept). L n x) e in
     λ i. record {
       area = (c .before .before .before .before .constant-times .ensures ∙ ap (λ (x : Pair). times (S n) (mm n (start .args .q .t .0)) x) length) i;
-      χ₁ = (e i) .chi1;
-      χ₂ = (e i) .chi2;
+      chi1 = (e i) .chi1;
+      chi2 = (e i) .chi2;
       z = axis i;
-      gross-z = gross i;
-      shift = (c .minus .ensures ∙ (λ j. signedMinus (axis j) (gross j))) i;
+      gross = gross i;
+      shift = (c .minus .ensures ∙ (λ j. plainPair (signedMinus (pair-means axis j) (pair-means gross j)))) i;
     }
 
 pub worked-of-spec : {M : Type 1} → statement M

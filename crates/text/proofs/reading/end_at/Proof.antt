@@ -9,8 +9,8 @@ use lib.ListN.{drop}
 use Rattle.pair.specs.declared.signed.Integer.{Integer}
 use Rattle.pair.proofs.IntegerForms.{above-is}
 use Rattle.text.specs.Reading.{got}
-use Rattle.text.specs.Forms.{front, Within}
-use Rattle.text.proofs.ReadSteps.{ended-right, ended-bad}
+use Rattle.text.specs.Forms.{front, PlainWithin}
+use Rattle.text.proofs.ReadSteps.{ended-right, ended-bad, above-plain}
 use Rattle.text.proofs.reading.end_at.Statement.{statement}
 use Rattle.text.proofs.reading.end_at.Tie as tie
 
@@ -21,15 +21,15 @@ add-next : tie.Need-add-next
 add-next c = omega (arith, c .before .byte-at .ensures .1 (omega arith))
 
 returns : tie.Need-returns
-unfolding front Within
+unfolding front PlainWithin
 returns c =
     let a = c .before .before .before .args in
     let b = c .before .byte-at in
     let v : Integer = record { size = a .size; below = false } in
-    (ap (λ (z : ℤ). got z (drop (a .at + 1) (a .s .now))) (above-is v refl) ∙ sym (ended-right (a .s .now) (a .at) (b .result) (b .ensures .0) (pos (a .size)) (c .if1 .taken)), omega (arith, b .ensures .1 (omega arith)))
+    (ap (λ (z : ℤ). got z (drop (a .at + 1) (a .s .now))) (above-is v refl) ∙ sym (ended-right (a .s .now) (a .at) (b .result) (b .ensures .0) (pos (a .size)) (c .if1 .taken)), (omega (arith, b .ensures .1 (omega arith)), above-plain v refl))
 
 returns-2 : tie.Need-returns-2
-unfolding front Within
+unfolding front PlainWithin
 returns-2 c =
     let a = c .before .before .before .args in
     let b = c .before .byte-at in

@@ -2,7 +2,7 @@
 use borrow.Author.Needs.{needs}
 use mathlib.Core.Path.{sym, _∙_}
 use native.Mathlib.Omega.{arith}
-use Rattle.text.specs.Forms.{front, Within}
+use Rattle.text.specs.Forms.{front, PlainWithin}
 use Rattle.text.proofs.ReadSteps.{letter-first, letter-second, letter-bad}
 use Rattle.text.proofs.reading.letter_at.Statement.{statement}
 use Rattle.text.proofs.reading.letter_at.Tie as tie
@@ -35,7 +35,7 @@ returns-2 c =
     (c .end-at2 .ensures .0 ∙ sym (letter-second (a .s .now) (a .at) (b .result) (b .ensures .0) (c .before .before .if1 .left) (c .before .if2 .taken)), c .end-at2 .ensures .1)
 
 returns-3 : tie.Need-returns-3
-unfolding front Within
+unfolding front PlainWithin
 returns-3 c =
     let a = c .before .before .before .before .args in
     let b = c .before .before .byte-at in

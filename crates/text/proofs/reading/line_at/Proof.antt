@@ -8,7 +8,7 @@ use lib.ListN.{length, drop}
 use lib.Seq.{length-take-le, drop-drop}
 use Rattle.text.specs.Keys.{keyOf, kindOf}
 use Rattle.text.specs.Reading.{readValue, begins}
-use Rattle.text.specs.Forms.{front, Within}
+use Rattle.text.specs.Forms.{front, PlainWithin}
 use Rattle.text.proofs.ReadSteps.{line-right, line-wrong}
 use Rattle.text.proofs.reading.line_at.Statement.{statement}
 use Rattle.text.proofs.reading.line_at.Tie as tie
@@ -56,7 +56,7 @@ returns c =
     )
 
 returns-2 : tie.Need-returns-2
-unfolding front Within
+unfolding front PlainWithin
 returns-2 c =
     let start = c .before .before .before .before in
     (sym (line-wrong (start .args .i) (drop (start .args .at) (start .args .s .now)) (key-found (c .before) ∙ c .if1 .left)), tt)

@@ -6,7 +6,7 @@ use mathlib.Core.Path.{_≡_, sym, _∙_}
 use native.Mathlib.Omega.{arith}
 use Rattle.text.specs.Decimal.{digit0}
 use Rattle.text.specs.Reading.{isDigit, readDigits}
-use Rattle.text.specs.Forms.{front, Within}
+use Rattle.text.specs.Forms.{front, PlainWithin}
 use Rattle.text.proofs.ReadSteps.{digit-range, number-zero, number-more, number-bad}
 use Rattle.text.proofs.reading.number_at.Statement.{statement}
 use Rattle.text.proofs.reading.number_at.Tie as tie
@@ -60,7 +60,7 @@ returns-2 c =
     (c .digits-at2 .ensures .0 ∙ sym (number-more (a .s .now) (a .at) (b .result) (b .ensures .0) (c .before .before .before .if1 .left) (digit (c .before))), c .digits-at2 .ensures .1)
 
 returns-3 : tie.Need-returns-3
-unfolding front Within
+unfolding front PlainWithin
 returns-3 c =
     let a = c .before .before .before .before .before .args in
     let b = c .before .before .before .byte-at in

@@ -1,31 +1,25 @@
--- `reading::read_lines` meets its contract. The invariant: the whole answer is the values so far with the answer from here on behind them.
+-- `reading::read_lines` meets its contract. The invariant: what `Begun` says of the lines read.
 use borrow.Author.Needs.{needs}
-use Prim.Native.Nat.{ℕ, _-_, _≤_, _<_}
+use Prim.Native.Nat.{_-_, _≤_, _<_}
 use mathlib.Core.List.{[]}
-use mathlib.Core.Path.{_≡_, refl, sym, ap, _∙_, subst}
-use native.Mathlib.Nat.{sub-zero}
+use mathlib.Core.Path.{_≡_, sym, ap, _∙_, subst}
 use native.Mathlib.Omega.{arith}
-use lib.ListN.{length, take, drop, length-set}
+use lib.ListN.{length}
 use Rattle.text.specs.Keys.{keys, certificateLines}
-use Rattle.text.specs.Reading.{readFrom, readLines}
-use Rattle.text.specs.Forms.{integers, front, Within, reading}
+use Rattle.text.specs.Forms.{front, PlainWithin, linesOf}
 use Rattle.text.proofs.KeyTable.{rows, lengths, row-short, row-key}
-use Rattle.text.proofs.ReadSteps.{behind, lines-bad, lines-more, lines-end, lines-behind}
+use Rattle.text.proofs.ReadSteps.{Begun, none-read, lines-bad, lines-more, lines-end, lines-behind}
 use Rattle.text.proofs.reading.read_lines.Statement.{statement}
 use Rattle.text.proofs.reading.read_lines.Tie as tie
 
 abbrev Inv-loop : tie.InvT-loop
-Inv-loop s count table counts values₀ at₀ i₀ values at i =
-    (i ≤ count) × (length values ≡ certificateLines) × (at ≤ length s)
-    × (readLines count s ≡ behind (integers (take i values)) (readFrom (count - i) i (drop at s)))
+Inv-loop s count table counts values₀ at₀ i₀ values at i = (i ≤ count) × (at ≤ length s) × Begun count s i at values
 
 abbrev μ-loop : tie.MeasureT-loop
 μ-loop s count table counts values₀ at₀ i₀ values at i = count - i
 
 loop-holds : tie.Need-loop-holds Inv-loop μ-loop
-loop-holds c =
-    let a = c .before .args in
-    (omega arith, refl, omega arith, ap (λ (n : ℕ). readFrom n 0 (a .s .now)) (sym (sub-zero (a .count))))
+loop-holds c = let a = c .before .args in (omega arith, omega arith, none-read (a .count) (a .s .now))
 
 -- the lines are no more than the values that there is place for
 in-values : (c : tie.In-loop Inv-loop μ-loop) → c .before .loop .i < certificateLines
@@ -47,7 +41,7 @@ line-at-requires : tie.Need-line-at-requires Inv-loop μ-loop
 unfolding keys rows lengths
 line-at-requires c κs =
     let h = c .before .before .loop in
-    (row-short (h .i), (row-key (h .i) (in-values (c .before)) [], h .inv .2))
+    (row-short (h .i), (row-key (h .i) (in-values (c .before)) [], h .inv .1))
 
 enum-known-found : tie.Need-enum-known-found Inv-loop μ-loop
 enum-known-found c = search needs
@@ -61,16 +55,19 @@ array-set-from-values c = in-values (c .before .before .before .before .before)
 enum-told : tie.Need-enum-told Inv-loop μ-loop
 enum-told c = search needs
 
-add-line : tie.Need-add-line Inv-loop μ-loop
-add-line c = omega (arith, in-values (c .before .before .before .before))
+add-bad-line : tie.Need-add-bad-line Inv-loop μ-loop
+add-bad-line c = omega (arith, in-values (c .before .before .before .before))
+
+bad-line-requires : tie.Need-bad-line-requires Inv-loop μ-loop
+bad-line-requires c κs = tt
 
 returns : tie.Need-returns Inv-loop μ-loop
-unfolding reading front
+unfolding front
 returns c =
-    let turn = c .before .before .before .before in
+    let turn = c .before .before .before .before .before in
     let h = turn .before .loop in
-    let a = turn .before .before .before .args in
-    sym (lines-bad (a .count) (h .i) (a .s .now) (h .at) (h .values) _ (h .inv .3) (turn .loop-test .taken) (sym (c .before .before .line-at .ensures .0) ∙ ap (front (a .s .now)) (c .enum-told .given .1)))
+    let s = turn .before .before .before .args .s .now in
+    c .bad-line .ensures ∙ ap linesOf (sym (lines-bad (h .inv .2) (turn .loop-test .taken) (sym (c .before .before .before .line-at .ensures .0) ∙ ap (front s) (c .before .enum-told .given .1))))
 
 add-i : tie.Need-add-i Inv-loop μ-loop
 add-i c = omega (arith, in-values (c .before .before .before .before .before))
@@ -79,17 +76,17 @@ loop-less : tie.Need-loop-less Inv-loop μ-loop
 loop-less c = omega (arith, c .before .before .before .before .before .loop-test .taken)
 
 loop-again : tie.Need-loop-again Inv-loop μ-loop
-unfolding front Within
+unfolding front PlainWithin
 loop-again c =
     let turn = c .before .before .before .before .before in
     let h = turn .before .loop in
-    let a = turn .before .before .before .args in
+    let s = turn .before .before .before .args .s .now in
     let call = c .before .before .before .line-at in
-    let is = c .before .found .given .1 in (
+    let is = c .before .found .given .1 in
+    let form = subst (PlainWithin (length s)) is (call .ensures .1) in (
       omega (arith, turn .loop-test .taken),
-      simp length-set (h .inv .1),
-      subst (Within (length (a .s .now))) is (call .ensures .1),
-      lines-more (a .count) (h .i) (a .s .now) (h .at) (h .values) _ (h .inv .3) (turn .loop-test .taken) (c .before .found .given .0 .0) (c .before .found .given .0 .1 .0) (omega (arith, in-values turn, h .inv .1)) (sym (call .ensures .0) ∙ ap (front (a .s .now)) is),
+      form .0,
+      lines-more (h .inv .2) (turn .loop-test .taken) _ _ (in-values turn) (form .1) (sym (call .ensures .0) ∙ ap (front s) is),
     )
 
 -- all lines are read
@@ -97,21 +94,18 @@ done : (c : tie.After-loop Inv-loop μ-loop) → c .before .loop .i ≡ c .befor
 done c = omega (arith, c .loop-test .left, c .before .loop .inv .0)
 
 returns-2 : tie.Need-returns-2 Inv-loop μ-loop
-unfolding reading
-returns-2 c =
-    let h = c .before .before .loop in
-    let a = c .before .before .before .before .args in
-    sym (lines-end (a .count) (h .i) (a .s .now) (h .at) (h .values) _ (h .inv .3) (done (c .before)) (omega (arith, c .if1 .taken)))
+returns-2 c = lines-end (c .before .before .loop .inv .2) (done (c .before)) (omega (arith, c .if1 .taken))
 
-add-line-2 : tie.Need-add-line-2 Inv-loop μ-loop
-add-line-2 c = omega (arith, c .before .before .before .before .pre)
+add-bad-line-2 : tie.Need-add-bad-line-2 Inv-loop μ-loop
+add-bad-line-2 c = omega (arith, c .before .before .before .before .pre)
+
+bad-line-requires-2 : tie.Need-bad-line-requires-2 Inv-loop μ-loop
+bad-line-requires-2 c κs = tt
 
 returns-3 : tie.Need-returns-3 Inv-loop μ-loop
-unfolding reading
 returns-3 c =
-    let h = c .before .before .loop in
-    let a = c .before .before .before .before .args in
-    sym (lines-behind (a .count) (h .i) (a .s .now) (h .at) (h .values) _ (h .inv .3) (done (c .before)) (omega (arith, c .if1 .left, h .inv .2)))
+    let h = c .before .before .before .loop in
+    c .bad-line2 .ensures ∙ ap linesOf (sym (lines-behind (h .inv .2) (done (c .before .before)) (omega (arith, c .before .if1 .left, h .inv .1))))
 
 pub read-lines-spec : {M : Type 1} → statement M
 read-lines-spec =
@@ -129,11 +123,13 @@ read-lines-spec =
     mul-values
     array-set-from-values
     enum-told
-    add-line
+    add-bad-line
+    bad-line-requires
     returns
     add-i
     loop-less
     loop-again
     returns-2
-    add-line-2
+    add-bad-line-2
+    bad-line-requires-2
     returns-3)

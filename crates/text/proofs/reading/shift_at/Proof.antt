@@ -9,9 +9,9 @@ use lib.IntN.{ℤ, pos, negℤ}
 use lib.ListN.{length, drop}
 use Rattle.pair.specs.SignedPairs.{integer}
 use Rattle.pair.specs.declared.signed.Integer.{Integer}
-use Rattle.pair.proofs.IntegerForms.{below-is, integer-size}
+use Rattle.pair.proofs.IntegerForms.{below-is, plain-is, integer-size}
 use Rattle.text.specs.Reading.{got, readNumber, negated, readShift}
-use Rattle.text.specs.Forms.{front, Within}
+use Rattle.text.specs.Forms.{front, PlainWithin}
 use Rattle.text.proofs.ReadSteps.{shift-plain, shift-minus, negated-zero, negated-more, negated-bad}
 use Rattle.text.proofs.reading.shift_at.Statement.{statement}
 use Rattle.text.proofs.reading.shift_at.Tie as tie
@@ -56,8 +56,8 @@ module _ (c : tie.After-number) where
   number-found = sym (c .before .before .number-at2 .ensures .0) ∙ ap (front S) (c .number .given .1)
 
   within : next ≤ length S
-  unfolding Within
-  within = subst (Within (length S)) (c .number .given .1) (c .before .before .number-at2 .ensures .1)
+  unfolding PlainWithin
+  within = subst (PlainWithin (length S)) (c .number .given .1) (c .before .before .number-at2 .ensures .1) .0
 
 -- a shift with a minus is the number behind it, below zero
 below : (c : tie.Else1) → readShift (drop (c .before .before .before .args .at) (c .before .before .before .args .s .now))
@@ -67,7 +67,7 @@ below c =
     shift-minus (a .s .now) (a .at) (c .before .byte-at .result) (c .before .byte-at .ensures .0) (c .if1 .left)
 
 returns-2 : tie.Need-returns-2
-unfolding front Within
+unfolding front PlainWithin
 returns-2 c =
     let f = c .before .before in
     (sym (below (minus-at f) ∙ negated-zero _ (integer (found f)) _ (number-found f) (integer-size (found f) ∙ c .if2 .taken)), tt)
@@ -76,17 +76,17 @@ enum-told : tie.Need-enum-told
 enum-told c = search needs
 
 returns-3 : tie.Need-returns-3
-unfolding front Within
+unfolding front PlainWithin
 returns-3 c =
     let f = c .before .before in
     let size = integer-size (found f) in
     let v : Integer = record { size = (found f) .size; below = true } in (
       ap (λ (z : ℤ). got z (drop (next f) (S f))) (below-is v refl) ∙ sym (below (minus-at f) ∙ negated-more _ (integer (found f)) _ (number-found f) (λ e. c .if2 .left (sym size ∙ e)) ∙ ap (λ (n : ℕ). got (negℤ (pos n)) (drop (next f) (S f))) size),
-      within f,
+      (within f, plain-is v (λ e. omega (arith, c .if2 .left))),
     )
 
 returns-4 : tie.Need-returns-4
-unfolding front Within
+unfolding front PlainWithin
 returns-4 c =
     let call = c .before .before .number-at2 in
     (sym (below (c .before .before .before) ∙ negated-bad _ (sym (call .ensures .0) ∙ ap (front _) (c .enum-told .given .1))), tt)

@@ -1,6 +1,6 @@
 -- `pair::signed::Integer::ceil_product` meets its contract.
 use borrow.Author.Needs.{needs}
-use Rattle.pair.proofs.IntegerForms.{below-is, above-is, negated-size, neg-times}
+use Rattle.pair.proofs.IntegerForms.{plain-means, below-is, above-is, negated-size, neg-times}
 use Rattle.pair.proofs.signed.Integer.ceil_product.Statement.{statement}
 use Rattle.pair.proofs.signed.Integer.ceil_product.Tie as tie
 
@@ -10,7 +10,7 @@ negated-requires c κs = search needs
 ceil-by-requires : tie.Need-ceil-by-requires
 ceil-by-requires c κs =
     let s = c .before .before in
-    rw (negated-size (c .negated .result) (s .args .self) (c .negated .ensures)) (s .pre)
+    rw (negated-size (s .args .self) (c .negated .ensures)) (s .pre)
 
 ceil-by-requires-2 : tie.Need-ceil-by-requires-2
 ceil-by-requires-2 c κs = search needs
@@ -18,7 +18,7 @@ ceil-by-requires-2 c κs = search needs
 returns : tie.Need-returns
 returns c =
     let s = c .before .before .before in
-    rw (c .ceil-by .ensures, c .before .negated .ensures, below-is (s .args .b) (c .before .before .if1 .taken), neg-times)
+    rw (c .ceil-by .ensures, c .before .negated .ensures, plain-means, below-is (s .args .b) (c .before .before .if1 .taken), neg-times)
 
 returns-2 : tie.Need-returns-2
 returns-2 c =

@@ -1,6 +1,7 @@
 -- `pair::signed::Integer::least` meets its contract.
 use borrow.Author.Needs.{needs}
-use mathlib.Core.Path.{sym, _∙_}
+use mathlib.Core.Path.{sym, ap, _∙_}
+use Rattle.pair.specs.SignedPairs.{plain}
 use Rattle.pair.proofs.IntegerLaws.{lebℤ-true, lebℤ-false, least-first, least-second}
 use Rattle.pair.proofs.signed.Integer.least.Statement.{statement}
 use Rattle.pair.proofs.signed.Integer.least.Tie as tie
@@ -8,11 +9,17 @@ use Rattle.pair.proofs.signed.Integer.least.Tie as tie
 at-most-requires : tie.Need-at-most-requires
 at-most-requires c κs = search needs
 
+of-requires : tie.Need-of-requires
+of-requires c κs = search needs
+
+of-requires-2 : tie.Need-of-requires-2
+of-requires-2 c κs = search needs
+
 returns : tie.Need-returns
-returns c = least-first (lebℤ-true _ _ (sym (c .before .at-most .ensures) ∙ c .if1 .taken))
+returns c = c .of .ensures ∙ ap plain (least-first (lebℤ-true _ _ (sym (c .before .before .at-most .ensures) ∙ c .before .if1 .taken)))
 
 returns-2 : tie.Need-returns-2
-returns-2 c = least-second (lebℤ-false _ _ (sym (c .before .at-most .ensures) ∙ c .if1 .left))
+returns-2 c = c .of2 .ensures ∙ ap plain (least-second (lebℤ-false _ _ (sym (c .before .before .at-most .ensures) ∙ c .before .if1 .left)))
 
 pub least-spec : {M : Type 1} → statement M
-least-spec = tie.close (tie.spec at-most-requires returns returns-2)
+least-spec = tie.close (tie.spec at-most-requires of-requires of-requires-2 returns returns-2)

@@ -1,12 +1,19 @@
 -- `pair::signed::Integer::negated` meets its contract.
-use Rattle.pair.specs.SignedPairs.{integer}
+use borrow.Author.Needs.{needs}
+use mathlib.Core.Path.{ap, _∙_}
+use Rattle.pair.specs.SignedPairs.{integer, plain}
 use Rattle.pair.proofs.IntegerForms.{not-below}
 use Rattle.pair.proofs.signed.Integer.negated.Statement.{statement}
 use Rattle.pair.proofs.signed.Integer.negated.Tie as tie
 
+of-requires : tie.Need-of-requires
+of-requires c κs = search needs
+
 returns : tie.Need-returns
 unfolding integer
-returns c = not-below (c .before .args .self .below) (c .before .args .self .size)
+returns c =
+    let a = c .before .before .args in
+    c .of .ensures ∙ ap plain (not-below (a .self .below) (a .self .size))
 
 pub negated-spec : {M : Type 1} → statement M
-negated-spec = tie.close (tie.spec returns)
+negated-spec = tie.close (tie.spec of-requires returns)

@@ -1,19 +1,23 @@
 -- `pair::signed::Integer::plus` meets its contract.
 use borrow.Author.Needs.{needs}
-use mathlib.Core.Path.{_∙_}
-use Rattle.pair.specs.SignedPairs.{integer}
+use mathlib.Core.Path.{ap, _∙_}
+use Rattle.pair.specs.SignedPairs.{integer, plain}
 use Rattle.pair.proofs.IntegerForms.{below-is, above-is, plus-below, pos-less, neg-more}
 use Rattle.pair.proofs.signed.Integer.plus.Statement.{statement}
 use Rattle.pair.proofs.signed.Integer.plus.Tie as tie
 
-add-t7 : tie.Need-add-t7
-add-t7 c = search needs
+add-of : tie.Need-add-of
+add-of c = search needs
+
+of-requires : tie.Need-of-requires
+of-requires c κs = search needs
 
 returns : tie.Need-returns
 unfolding integer
 returns c =
-    let a = c .before .before .before .before .args in
-    rw (below-is (a .self) (c .before .before .before .if1 .taken), below-is (a .b) (c .before .before .if2 .taken)) (plus-below (a .self .size) (a .b .size))
+    let a = c .before .before .before .before .before .args in
+    rw (below-is (a .self) (c .before .before .before .before .if1 .taken), below-is (a .b) (c .before .before .before .if2 .taken))
+    (c .of .ensures ∙ ap plain (plus-below (a .self .size) (a .b .size)))
 
 difference-requires : tie.Need-difference-requires
 difference-requires c κs = search needs
@@ -21,7 +25,8 @@ difference-requires c κs = search needs
 returns-2 : tie.Need-returns-2
 returns-2 c =
     let a = c .before .before .before .args in
-    rw (below-is (a .self) (c .before .before .if1 .taken), above-is (a .b) (c .before .if2 .left)) (c .difference .ensures ∙ neg-more (a .self .size) (a .b .size))
+    rw (below-is (a .self) (c .before .before .if1 .taken), above-is (a .b) (c .before .if2 .left))
+    (c .difference .ensures ∙ ap plain (neg-more (a .self .size) (a .b .size)))
 
 difference-requires-2 : tie.Need-difference-requires-2
 difference-requires-2 c κs = search needs
@@ -29,13 +34,14 @@ difference-requires-2 c κs = search needs
 returns-3 : tie.Need-returns-3
 returns-3 c =
     let a = c .before .before .before .args in
-    rw (above-is (a .self) (c .before .before .if1 .left), below-is (a .b) (c .before .if3 .taken)) (c .difference2 .ensures ∙ pos-less (a .self .size) (a .b .size))
+    rw (above-is (a .self) (c .before .before .if1 .left), below-is (a .b) (c .before .if3 .taken))
+    (c .difference2 .ensures ∙ ap plain (pos-less (a .self .size) (a .b .size)))
 
 add-t8 : tie.Need-add-t8
 add-t8 c = search needs
 
 returns-4 : tie.Need-returns-4
-unfolding integer
+unfolding plain
 returns-4 c =
     let a = c .before .before .before .before .args in
     rw (above-is (a .self) (c .before .before .before .if1 .left), above-is (a .b) (c .before .before .if3 .left))
@@ -44,7 +50,8 @@ pub plus-spec : {M : Type 1} → statement M
 plus-spec =
     tie.close
     (tie.spec
-    add-t7
+    add-of
+    of-requires
     returns
     difference-requires
     returns-2

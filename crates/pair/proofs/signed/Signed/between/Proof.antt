@@ -1,6 +1,6 @@
 -- `pair::signed::Signed::between` meets its contract.
 use borrow.Author.Needs.{needs}
-use Rattle.pair.specs.SignedPairs.{meaning, difference}
+use Rattle.pair.specs.SignedPairs.{plainPair, difference}
 use Rattle.pair.proofs.signed.Signed.between.Statement.{statement}
 use Rattle.pair.proofs.signed.Signed.between.Tie as tie
 
@@ -11,7 +11,7 @@ difference-requires-2 : tie.Need-difference-requires-2
 difference-requires-2 c κs = search needs
 
 returns : tie.Need-returns
-unfolding meaning difference
+unfolding plainPair difference
 returns c = λ i. record { lo = c .before .difference .ensures i; hi = c .difference2 .ensures i }
 
 pub between-spec : {M : Type 1} → statement M

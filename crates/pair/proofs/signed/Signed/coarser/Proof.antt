@@ -3,7 +3,7 @@ use mathlib.Core.Path.{ap, _∙_}
 use native.Mathlib.Omega.{arith}
 use lib.IntN.{ℤ}
 use Rattle.pair.specs.Integers.{floorOver, ceilOver}
-use Rattle.pair.specs.SignedPairs.{integer, meaning, coarser}
+use Rattle.pair.specs.SignedPairs.{integer, plain, meaning, plainPair, coarser}
 use Rattle.pair.proofs.IntegerLaws.{scaled-one}
 use Rattle.pair.proofs.SignedForms.{unit-word}
 use Rattle.pair.proofs.signed.Signed.coarser.Statement.{statement}
@@ -16,12 +16,12 @@ ceil-by-requires : tie.Need-ceil-by-requires
 ceil-by-requires c κs = unit-word (c .before .before .before .pre) (omega arith)
 
 returns : tie.Need-returns
-unfolding meaning coarser
+unfolding meaning plainPair coarser
 returns c =
     let a = c .before .before .before .before .args in
     λ i. record {
-      lo = (c .before .floor-by .ensures ∙ ap (λ (z : ℤ). floorOver z (a .k)) (scaled-one (integer (a .self .lo)))) i;
-      hi = (c .ceil-by .ensures ∙ ap (λ (z : ℤ). ceilOver z (a .k)) (scaled-one (integer (a .self .hi)))) i;
+      lo = (c .before .floor-by .ensures ∙ ap (λ (z : ℤ). plain (floorOver z (a .k))) (scaled-one (integer (a .self .lo)))) i;
+      hi = (c .ceil-by .ensures ∙ ap (λ (z : ℤ). plain (ceilOver z (a .k))) (scaled-one (integer (a .self .hi)))) i;
     }
 
 pub coarser-spec : {M : Type 1} → statement M

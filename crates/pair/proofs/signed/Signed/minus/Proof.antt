@@ -2,9 +2,9 @@
 use borrow.Author.Needs.{needs}
 use mathlib.Core.Path.{ap, _∙_}
 use lib.IntN.{ℤ, _+ℤ_}
-use Rattle.pair.specs.SignedPairs.{integer, meaning, signedMinus}
+use Rattle.pair.specs.SignedPairs.{integer, plain, meaning, plainPair, signedMinus}
 use Rattle.pair.proofs.SignedBounds.{PlusRoom, plus-room}
-use Rattle.pair.proofs.IntegerForms.{negated-size, low-reach, high-reach}
+use Rattle.pair.proofs.IntegerForms.{means, negated-size, low-reach, high-reach}
 use Rattle.pair.proofs.SignedForms.{plus-word}
 use Rattle.pair.proofs.signed.Signed.minus.Statement.{statement}
 use Rattle.pair.proofs.signed.Signed.minus.Tie as tie
@@ -18,7 +18,7 @@ negated-requires c κs = search needs
 plus-requires : tie.Need-plus-requires
 plus-requires c κs =
     let s = c .before .before .before .before .before in
-    rw (negated-size (c .negated .result) (s .args .b .hi) (c .negated .ensures))
+    rw (negated-size (s .args .b .hi) (c .negated .ensures))
     (plus-word (room s) (low-reach (s .args .self)) (high-reach (s .args .b)))
 
 negated-requires-2 : tie.Need-negated-requires-2
@@ -27,16 +27,16 @@ negated-requires-2 c κs = search needs
 plus-requires-2 : tie.Need-plus-requires-2
 plus-requires-2 c κs =
     let s = c .before .before .before .before .before .before .before in
-    rw (negated-size (c .negated2 .result) (s .args .b .lo) (c .negated2 .ensures))
+    rw (negated-size (s .args .b .lo) (c .negated2 .ensures))
     (plus-word (room s) (high-reach (s .args .self)) (low-reach (s .args .b)))
 
 returns : tie.Need-returns
-unfolding meaning signedMinus
+unfolding meaning plainPair signedMinus
 returns c =
     let a = c .before .before .before .before .before .before .before .before .args in
     λ i. record {
-      lo = (c .before .before .plus .ensures ∙ ap (λ (z : ℤ). integer (a .self .lo) +ℤ z) (c .before .before .before .negated .ensures)) i;
-      hi = (c .plus2 .ensures ∙ ap (λ (z : ℤ). integer (a .self .hi) +ℤ z) (c .before .negated2 .ensures)) i;
+      lo = (c .before .before .plus .ensures ∙ ap (λ (z : ℤ). plain (integer (a .self .lo) +ℤ z)) (means (c .before .before .before .negated .ensures))) i;
+      hi = (c .plus2 .ensures ∙ ap (λ (z : ℤ). plain (integer (a .self .hi) +ℤ z)) (means (c .before .negated2 .ensures))) i;
     }
 
 pub minus-spec : {M : Type 1} → statement M

@@ -1,11 +1,11 @@
 -- `pair::signed::Signed::of` meets its contract.
 use mathlib.Core.Path.{refl}
-use Rattle.pair.specs.SignedPairs.{integer, meaning, signed}
+use Rattle.pair.specs.SignedPairs.{plain, plainPair, signed}
 use Rattle.pair.proofs.signed.Signed.of.Statement.{statement}
 use Rattle.pair.proofs.signed.Signed.of.Tie as tie
 
 returns : tie.Need-returns
-unfolding integer meaning signed
+unfolding plain plainPair signed
 returns c = refl
 
 pub of-spec : {M : Type 1} → statement M

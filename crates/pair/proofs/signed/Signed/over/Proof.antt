@@ -1,8 +1,8 @@
 -- `pair::signed::Signed::over` meets its contract.
 use borrow.Author.Needs.{needs}
-use mathlib.Core.Path.{_∙_}
+use mathlib.Core.Path.{ap, _∙_}
 use native.Mathlib.Nat.{le-refl}
-use Rattle.pair.specs.SignedPairs.{meaning}
+use Rattle.pair.specs.SignedPairs.{meaning, plain, plainPair}
 use Rattle.pair.proofs.SignedBounds.{OverRoom, over-room}
 use Rattle.pair.proofs.IntegerForms.{low-reach, high-reach}
 use Rattle.pair.proofs.SignedForms.{over-word, low-over, high-over, picked-from}
@@ -29,12 +29,12 @@ ceil-by-requires c κs =
     over-word (room s) (high-reach (s .args .self)) (picked-from (s .args .self .hi .below) (c .pick2 .ensures) (room s .ends) (le-refl _))
 
 returns : tie.Need-returns
-unfolding meaning
+unfolding plainPair
 returns c =
     let s = c .before .before .before .before .before .before in
     λ i. record {
-      lo = (c .before .before .floor-by .ensures ∙ low-over (s .args .self) (s .args .q) (room s) (c .before .before .before .pick .ensures)) i;
-      hi = (c .ceil-by .ensures ∙ high-over (s .args .self) (s .args .q) (room s) (c .before .pick2 .ensures)) i;
+      lo = (c .before .before .floor-by .ensures ∙ ap plain (low-over (s .args .self) (s .args .q) (room s) (c .before .before .before .pick .ensures))) i;
+      hi = (c .ceil-by .ensures ∙ ap plain (high-over (s .args .self) (s .args .q) (room s) (c .before .pick2 .ensures))) i;
     }
 
 pub over-spec : {M : Type 1} → statement M

@@ -1,5 +1,5 @@
 -- `pair::signed::Signed::plus` meets its contract.
-use Rattle.pair.specs.SignedPairs.{meaning, signedPlus}
+use Rattle.pair.specs.SignedPairs.{meaning, plainPair, signedPlus}
 use Rattle.pair.proofs.SignedBounds.{PlusRoom, plus-room}
 use Rattle.pair.proofs.IntegerForms.{low-reach, high-reach}
 use Rattle.pair.proofs.SignedForms.{plus-word}
@@ -20,7 +20,7 @@ plus-requires-2 c κs =
     plus-word (room s) (high-reach (s .args .self)) (high-reach (s .args .b))
 
 returns : tie.Need-returns
-unfolding meaning signedPlus
+unfolding meaning plainPair signedPlus
 returns c = λ i. record { lo = c .before .plus .ensures i; hi = c .plus2 .ensures i }
 
 pub plus-spec : {M : Type 1} → statement M

@@ -1,7 +1,7 @@
 -- `pair::signed::Signed::times` meets its contract.
 use borrow.Author.Needs.{needs}
-use mathlib.Core.Path.{_∙_}
-use Rattle.pair.specs.SignedPairs.{meaning, signed}
+use mathlib.Core.Path.{ap, _∙_}
+use Rattle.pair.specs.SignedPairs.{meaning, plain, plainPair, signed}
 use Rattle.pair.proofs.SignedBounds.{TimesRoom, times-room}
 use Rattle.pair.proofs.IntegerForms.{low-reach, high-reach}
 use Rattle.pair.proofs.SignedForms.{times-word, low-times, high-times, picked-within, pair-low, pair-high}
@@ -30,12 +30,12 @@ ceil-by-requires c κs =
     (picked-within (s .args .self .hi .below) (c .pick2 .ensures) (pair-low (s .args .p)) (pair-high (s .args .p)))
 
 returns : tie.Need-returns
-unfolding meaning
+unfolding plainPair
 returns c =
     let s = c .before .before .before .before .before .before in
     λ i. record {
-      lo = (c .before .before .floor-by .ensures ∙ low-times (s .args .self) (s .args .p) (room s) (c .before .before .before .pick .ensures)) i;
-      hi = (c .ceil-by .ensures ∙ high-times (s .args .self) (s .args .p) (room s) (c .before .pick2 .ensures)) i;
+      lo = (c .before .before .floor-by .ensures ∙ ap plain (low-times (s .args .self) (s .args .p) (room s) (c .before .before .before .pick .ensures))) i;
+      hi = (c .ceil-by .ensures ∙ ap plain (high-times (s .args .self) (s .args .p) (room s) (c .before .pick2 .ensures))) i;
     }
 
 pub times-spec : {M : Type 1} → statement M

@@ -1,6 +1,6 @@
 -- `pair::signed::Signed::times_signed` meets its contract.
 use borrow.Author.Needs.{needs}
-use Rattle.pair.specs.SignedPairs.{meaning}
+use Rattle.pair.specs.SignedPairs.{plainPair}
 use Rattle.pair.proofs.signed.Signed.times_signed.Statement.{statement}
 use Rattle.pair.proofs.signed.Signed.times_signed.Tie as tie
 
@@ -11,7 +11,7 @@ greatest-product-requires : tie.Need-greatest-product-requires
 greatest-product-requires c κs = search needs
 
 returns : tie.Need-returns
-unfolding meaning
+unfolding plainPair
 returns c = λ i. record { lo = c .before .least-product .ensures i; hi = c .greatest-product .ensures i }
 
 pub times-signed-spec : {M : Type 1} → statement M

@@ -1,7 +1,7 @@
 //! Texts and numbers with faults.
 
-use reference::chance::Chance;
-use reference::sheet::RANGES;
+use crate::chance::Chance;
+use crate::sheet::RANGES;
 
 /// Bytes that a fault puts in: those with a meaning in a text and some others.
 pub const FAULTS: [u8; 18] = [

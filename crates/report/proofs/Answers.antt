@@ -1,0 +1,80 @@
+-- What the calls answer, and what is printed of it.
+use Prim.Native.Nat.{ℕ}
+use mathlib.Core.Bool.{cond}
+use mathlib.Core.List.{List}
+use mathlib.Core.Path.{_≡_, refl, sym, ap, _∙_}
+use native.Mathlib.Omega.{arith}
+use borrow.Author.Tests.{eq-eqb, ne-eqb}
+use lib.Dec.{eqb}
+use lib.ListN.{length}
+use Rattle.text.specs.Keys.{bytes}
+use Rattle.text.specs.Lines.{over}
+use Rattle.certificate.specs.declared.Answer.{Answer}
+use Rattle.certificate.specs.declared.Refusal.{Refusal}
+use Rattle.certificate.specs.declared.Refusal.the-variants.{Spelling, Range, Thickness, FlangeWidth, LipLength, Depth, LipRatio, Radius, MidLineRatio, Form, Allowance, Room, Figure}
+use Rattle.certificate.specs.declared.Found.{Found}
+use Rattle.certificate.specs.declared.Found.the-variants.{Refused, Met}
+use Rattle.certificate.specs.Refusals.{answer, told}
+use Rattle.certificate.specs.Outcome.{Outcome, refused, written, answerOf, bufferAfter, checkAnswer}
+use Rattle.certificate.proofs.OutcomeSteps.{answers-refusal, answers-text, answers-unlike, answers-passed}
+use Rattle.report.specs.Printed.{numberLine, refusalLines, outcomePrints, foundPrints}
+
+-- a refusal has a number
+numbered : (r : Refusal) → (told r) .refusal ≡ 0 → ⊥
+numbered (Spelling l) e = omega arith
+numbered (Range l) e = omega arith
+numbered Thickness e = omega arith
+numbered (FlangeWidth l) e = omega arith
+numbered LipLength e = omega arith
+numbered Depth e = omega arith
+numbered (LipRatio l) e = omega arith
+numbered Radius e = omega arith
+numbered (MidLineRatio l) e = omega arith
+numbered Form e = omega arith
+numbered Allowance e = omega arith
+numbered (Room n) e = omega arith
+numbered (Figure l) e = omega arith
+
+-- Writing: what is answered and left in the buffer b where the outcome is a text, or a refusal.
+module _ (b t : List ℕ) where
+  text-answered : (answer 0 0 (length t) ≡ answerOf (written t)) × (over t b ≡ bufferAfter (written t) b)
+  text-answered = answers-text (written t) (answer 0 0 (length t)) b t (over t b) (length t) refl refl refl refl
+
+module _ (b : List ℕ) (r : Refusal) where
+  refusal-answered : (told r ≡ answerOf (refused r)) × (b ≡ bufferAfter (refused r) b)
+  refusal-answered = answers-refusal (refused r) (told r) b r refl refl
+
+  not-accepted : (answerOf (refused r)) .refusal ≡ 0 → ⊥
+  not-accepted e = numbered r (ap (λ (a : Answer). a .refusal) (refusal-answered .0) ∙ e)
+
+-- with no refusal the buffer has at its front what is printed
+pub certificate-printed : (o : Outcome) (b : List ℕ) → (answerOf o) .refusal ≡ 0
+    → ((answerOf o) .length ≡ length (outcomePrints o)) × (bufferAfter o b ≡ over (outcomePrints o) b)
+unfolding outcomePrints
+certificate-printed (written t) b e = let h = text-answered b t in (sym (ap (λ (a : Answer). a .length) (h .0)), sym (h .1))
+certificate-printed (refused r) b e = absurd (not-accepted b r e)
+
+-- with a refusal the buffer is as it was, and the two lines are printed
+pub refusal-printed : (o : Outcome) (b : List ℕ) → ((answerOf o) .refusal ≡ 0 → ⊥)
+    → (refusalLines (answerOf o) ≡ outcomePrints o) × (bufferAfter o b ≡ b)
+unfolding outcomePrints
+refusal-printed (written t) b n = absurd (n (sym (ap (λ (a : Answer). a .refusal) (text-answered b t .0))))
+refusal-printed (refused r) b n = let h = refusal-answered b r in (ap refusalLines (sym (h .0)), sym (h .1))
+
+-- Checking: what is printed of an answer.
+unfoldable pub answerPrints : Answer → List ℕ
+answerPrints a = cond (eqb (a .refusal) 0) (numberLine (bytes "passed=") (a .length)) (refusalLines a)
+
+module _ (a : Answer) where
+  pub passed-prints : a .refusal ≡ 0 → answerPrints a ≡ numberLine (bytes "passed=") (a .length)
+  unfolding answerPrints numberLine
+  passed-prints e = rw (eq-eqb (a .refusal) 0 e)
+
+  pub refusal-prints : (a .refusal ≡ 0 → ⊥) → answerPrints a ≡ refusalLines a
+  unfolding answerPrints refusalLines
+  refusal-prints n = rw (ne-eqb (a .refusal) 0 n)
+
+pub found-prints : (c : List ℕ) (f : Found) → foundPrints c f ≡ answerPrints (checkAnswer c f)
+unfolding foundPrints
+found-prints c Met = sym (passed-prints (answer 0 0 (length c)) refl) ∙ ap answerPrints (answers-passed c Met (answer 0 0 (length c)) refl refl)
+found-prints c (Refused r) = sym (refusal-prints (told r) (numbered r)) ∙ ap answerPrints (answers-unlike c (Refused r) (told r) r refl refl)

@@ -1,0 +1,20 @@
+-- What is promised of the programs: no byte behind the longest text and one more decides what they print.
+use Prim.Native.Nat.{ℕ, _<_}
+use mathlib.Core.List.{List}
+use mathlib.Core.Path.{_≡_, sym, ap, _∙_}
+use lib.ListN.{take}
+use Rattle.text.specs.Keys.{sheetLines, certificateLines}
+use Rattle.text.specs.Lines.{longest}
+use Rattle.certificate.specs.Outcome.{checked}
+use Rattle.certificate.proofs.Promises.{cut-sheet, cut-certificate}
+use Rattle.report.specs.Printed.{outcomePrints, certifyPrints, verifyPrints}
+use Rattle.report.proofs.Answers.{answerPrints, found-prints}
+
+pub certify-cut : (s : List ℕ) (m : ℕ) → longest sheetLines < m → certifyPrints (take m s) ≡ certifyPrints s
+unfolding certifyPrints
+certify-cut s m h = ap outcomePrints (cut-sheet s m (longest certificateLines) h)
+
+pub verify-cut : (c : List ℕ) (m : ℕ) → longest certificateLines < m → verifyPrints (take m c) ≡ verifyPrints c
+unfolding verifyPrints
+verify-cut c m h =
+    found-prints (take m c) (checked (take m c)) ∙ ap answerPrints (cut-certificate c m h) ∙ sym (found-prints c (checked c))

@@ -1,0 +1,186 @@
+//! The texts that the programs are given.
+
+use reference::cases::{
+    certificate_of, certificates, each_line_changed, longest_certificate, longest_sheet, sheets,
+    text_of,
+};
+use reference::chance::{Chance, SEED};
+use reference::damage::{damaged, moved, FAULTS};
+use reference::named::{SHEET_A, SHEET_B};
+use reference::random::any_section;
+use reference::sheet::ask_numbers;
+use reference::text::{certificate_text, sheet_text, LONGEST_CERTIFICATE, LONGEST_SHEET};
+use std::path::{Path, PathBuf};
+use std::{fs, io};
+
+/// How many random sections, each with its sheet, its certificate and damaged
+/// ones.
+const RANDOM: usize = 100;
+
+pub struct Text {
+    pub name: String,
+    pub bytes: Vec<u8>,
+}
+
+fn text(name: impl Into<String>, bytes: impl Into<Vec<u8>>) -> Text {
+    let (name, bytes) = (name.into(), bytes.into());
+    Text { name, bytes }
+}
+
+pub fn all() -> io::Result<Vec<Text>> {
+    let mut texts = vec![text("empty", "")];
+    texts.extend(kept());
+    texts.extend(kept_spellings()?);
+    texts.extend(random());
+    texts.extend(near_longest());
+    texts.extend(filled());
+    texts.extend(longer());
+    Ok(texts)
+}
+
+/// The texts of crates/certificate_cases.
+fn kept() -> Vec<Text> {
+    let sheets = sheets().into_iter().map(|case| ("sheet", case));
+    let certificates = certificates().into_iter().map(|case| ("certificate", case));
+    sheets
+        .chain(certificates)
+        .map(|(kind, case)| text(format!("{kind} {}", case.name), case.text))
+        .collect()
+}
+
+fn in_repository(path: &str) -> PathBuf {
+    let repository = Path::new(env!("CARGO_MANIFEST_DIR")).join("../..");
+    repository.join(path)
+}
+
+/// The texts of crates/text_cases: behind a letter s or c, in hexadecimal digits.
+fn kept_spellings() -> io::Result<Vec<Text>> {
+    let mut texts = Vec::new();
+    let cases = fs::read_to_string(in_repository("crates/text_cases/stdin"))?;
+    for (line, n) in cases.lines().zip(1..) {
+        if let Some(digits) = line.strip_prefix(['s', 'c']) {
+            texts.push(text(format!("text_cases, line {n}"), from_hex(digits)));
+        }
+    }
+    assert!(!texts.is_empty());
+    Ok(texts)
+}
+
+fn from_hex(digits: &str) -> Vec<u8> {
+    let digit = |c: u8| (c as char).to_digit(16).expect("a digit") as u8;
+    let bytes = digits.as_bytes().chunks(2);
+    bytes.map(|b| digit(b[0]) * 16 + digit(b[1])).collect()
+}
+
+/// Random sections, some of them refused; numbers moved, and damaged texts.
+fn random() -> Vec<Text> {
+    let mut chance = Chance::seeded(SEED);
+    let mut texts = Vec::new();
+    for i in 0..RANDOM {
+        let numbers = any_section(&mut chance).numbers();
+        let sheet = sheet_text(numbers);
+        let other = sheet_text(moved(&mut chance, numbers));
+        let bad = damaged(&mut chance, sheet.as_bytes());
+        texts.push(text(format!("random {i}"), sheet));
+        texts.push(text(format!("random {i}, moved"), other));
+        texts.push(text(format!("random {i}, damaged"), bad));
+        if let Ok(accepted) = ask_numbers(numbers) {
+            let certificate = certificate_text(&accepted);
+            let bad = damaged(&mut chance, certificate.as_bytes());
+            texts.push(text(format!("random {i}, certificate"), certificate));
+            texts.push(text(format!("random {i}, damaged certificate"), bad));
+        }
+    }
+    texts
+}
+
+/// A sheet and its certificate, each of them right.
+fn right() -> [(&'static str, String); 2] {
+    let (sheet, certificate) = (text_of(SHEET_B), certificate_of(SHEET_B));
+    [("sheet B", sheet), ("certificate B", certificate)]
+}
+
+fn longest() -> [(&'static str, String); 2] {
+    let (sheet, certificate) = (longest_sheet(), longest_certificate());
+    [
+        ("longest sheet", sheet),
+        ("longest certificate", certificate),
+    ]
+}
+
+/// The longest texts, those with a digit less or more in a line, and with a byte
+/// less or more at the end.
+fn near_longest() -> Vec<Text> {
+    let mut texts = Vec::new();
+    for (name, longest) in longest() {
+        let named = |bytes: Vec<u8>| text(format!("near the {name}"), bytes);
+        let mut near = each_line_changed(&longest, |line| line[..line.len() - 1].to_string());
+        for count in [1, 100_000] {
+            let digits = "9".repeat(count);
+            near.extend(each_line_changed(&longest, |line| {
+                format!("{line}{digits}")
+            }));
+        }
+        near.push(longest[..longest.len() - 1].to_string());
+        near.push(longest.clone());
+        texts.extend(near.into_iter().map(|text| named(text.into_bytes())));
+        texts.extend(FAULTS.map(|byte| named([longest.as_bytes(), &[byte]].concat())));
+    }
+    texts
+}
+
+/// Right texts with bytes behind, as long as the longest ones or nearly so.
+fn filled() -> Vec<Text> {
+    let mut texts = Vec::new();
+    for (name, right) in right() {
+        for longest in [LONGEST_SHEET, LONGEST_CERTIFICATE] {
+            for length in longest - 1..=longest + 2 {
+                for byte in *b"\n9" {
+                    let mut bytes = right.clone().into_bytes();
+                    bytes.resize(length, byte);
+                    texts.push(text(format!("{name}, filled to {length}"), bytes));
+                }
+            }
+        }
+    }
+    texts
+}
+
+/// Right and longest texts, and behind them bytes: newlines, digits, or another
+/// sheet over and over.
+fn longer() -> Vec<Text> {
+    let mut texts = Vec::new();
+    let another = text_of(SHEET_A);
+    for (name, front) in right().into_iter().chain(longest()) {
+        for behind in ["\n", "0123456789", &another] {
+            for count in [1, 100, 100_000, 5_000_000] {
+                let behind = behind.bytes().cycle().take(count);
+                let bytes: Vec<u8> = front.bytes().chain(behind).collect();
+                texts.push(text(format!("{name}, {count} bytes behind"), bytes));
+            }
+        }
+    }
+    texts
+}
+
+/// Texts that come in pieces, and the length of a piece.
+pub fn slow() -> Vec<(Text, usize)> {
+    let mut texts = Vec::new();
+    for (name, right) in right() {
+        for (times, piece) in [(1, 1), (1, 50), (2, 70)] {
+            let name = format!("{name}, {times} times, in pieces of {piece}");
+            texts.push((text(name, right.repeat(times)), piece));
+        }
+    }
+    texts
+}
+
+/// The files of examples/ that are texts.
+pub fn examples() -> [PathBuf; 4] {
+    let names = ["sheet_a.txt", "sheet_b.txt", "z_section.txt", "output.txt"];
+    names.map(|name| in_repository("examples").join(name))
+}
+
+pub fn of_file(path: &Path) -> io::Result<Text> {
+    Ok(text(path.display().to_string(), fs::read(path)?))
+}

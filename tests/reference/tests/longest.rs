@@ -1,0 +1,81 @@
+//! The longest texts, and the constants that say how long they are.
+
+use reference::cases::{each_line_changed, longest_certificate, longest_sheet};
+use reference::text::{
+    printed, printed_check, read_certificate, read_sheet, LONGEST_CERTIFICATE, LONGEST_SHEET,
+};
+use std::fs;
+use std::path::Path;
+
+/// Asserts that a text is spelt right and so long, and that no line of it may
+/// have a digit more.
+fn assert_longest(text: &str, length: usize, is_right: impl Fn(&str) -> bool) {
+    assert_eq!(text.len(), length);
+    assert!(is_right(text));
+    for longer in each_line_changed(text, |line| format!("{line}9")) {
+        assert!(!is_right(&longer), "{longer}");
+    }
+}
+
+#[test]
+fn the_longest_texts_are_so_long() {
+    let sheet_is_right = |text: &str| read_sheet(text.as_bytes()).is_ok();
+    let certificate_is_right = |text: &str| read_certificate(text.as_bytes()).is_ok();
+    assert_longest(&longest_sheet(), LONGEST_SHEET, sheet_is_right);
+    assert_longest(
+        &longest_certificate(),
+        LONGEST_CERTIFICATE,
+        certificate_is_right,
+    );
+}
+
+/// They are out of range, and a byte behind them is refused before that.
+#[test]
+fn the_longest_texts_are_refused() {
+    let (sheet, certificate) = (longest_sheet(), longest_certificate());
+    assert_eq!(printed(sheet.as_bytes()), "refused=2\nline=2\n");
+    assert_eq!(printed_check(certificate.as_bytes()), "refused=2\nline=2\n");
+    let (sheet, certificate) = (sheet + "\n", certificate + "\n");
+    assert_eq!(printed(sheet.as_bytes()), "refused=1\nline=13\n");
+    assert_eq!(
+        printed_check(certificate.as_bytes()),
+        "refused=1\nline=19\n"
+    );
+}
+
+/// The number behind the words with which one line of a file begins.
+fn constant(file: &str, words: &str) -> usize {
+    let repository = Path::new(env!("CARGO_MANIFEST_DIR")).join("../..");
+    let text = fs::read_to_string(repository.join(file)).expect(file);
+    let found: Vec<&str> = text.lines().filter_map(|l| l.strip_prefix(words)).collect();
+    let [rest] = found[..] else {
+        panic!("{file} has {} lines {words}", found.len());
+    };
+    let digits = rest.split(|c: char| !c.is_ascii_digit()).next();
+    digits.and_then(|n| n.parse().ok()).expect(file)
+}
+
+/// The buffer that the header asks for is the one that the code needs.
+#[test]
+fn the_constants_of_header_code_and_example_are_the_same() {
+    for (file, words, longest) in [
+        (
+            "include/certificate.h",
+            "#define CERTIFICATE_LONGEST ",
+            LONGEST_CERTIFICATE,
+        ),
+        (
+            "crates/text/src/lib.rt",
+            "pub const LONGEST_CERTIFICATE: usize = ",
+            LONGEST_CERTIFICATE,
+        ),
+        (
+            "crates/text/src/lib.rt",
+            "pub const LONGEST_SHEET: usize = ",
+            LONGEST_SHEET,
+        ),
+        ("examples/certificate.py", "LONGEST = ", LONGEST_CERTIFICATE),
+    ] {
+        assert_eq!(constant(file, words), longest, "{file}: {words}");
+    }
+}
