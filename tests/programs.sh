@@ -5,3 +5,10 @@ set -eu
 cd "$(dirname "$0")/.."
 rt check certify verify
 cargo run --release --offline -q --manifest-path tests/reference/Cargo.toml --bin programs -- target/bin
+
+# README's first command shows the certificate alone.
+shown=$(examples/certify.sh examples/sheet_b.txt)
+[ "$shown" = "$(cat crates/certify/stdout)" ] || {
+    echo "examples/certify.sh: does not print the certificate of sheet B" >&2
+    exit 1
+}

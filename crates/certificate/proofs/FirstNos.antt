@@ -1,4 +1,4 @@
--- Questions in order, and the facts they ask for: the first "no" is found exactly where there is a reason.
+-- Questions in order, and their claims with the lines that they name: the first "no" is found exactly where there is a reason.
 use Prim.Native.Nat.{ℕ, zero, suc, _+_, _-_}
 use mathlib.Core.Path.{_≡_, refl, sym, ap, _∙_, subst}
 use mathlib.Core.Logic.{_⊎_, inl, inr, _↔_}
@@ -11,7 +11,7 @@ use Rattle.certificate.specs.declared.Found.the-variants.{Refused, Met}
 use Rattle.certificate.specs.Refusals.{answer, told}
 use Rattle.certificate.specs.declared.Answer.{Answer}
 use Rattle.certificate.specs.Questions.{Asked, _else_, _then_, firstOf, firstIn}
-use Rattle.certificate.specs.Reasons.{Each, Lined, _at-line_, FirstNo, place, length-told, Reason, Found-as}
+use Rattle.certificate.specs.Reasons.{Lined, _at-line_, So, AllSo, FirstNo, place, length-told, Reason, Found-as}
 use Rattle.section.specs.Claims.{Claim, Holds}
 use Rattle.certificate.proofs.Tests.{decided, holds-test, fails-test}
 
@@ -56,24 +56,6 @@ refused-when-no [] r n = absurd n
 refused-when-no ((a else r₀) ∷ cs) r (inl p) = rw (fails-test a (p .0)) (ap Refused (p .1))
 refused-when-no ((a else r₀) ∷ cs) r (inr p) = rw (holds-test a (p .0)) (refused-when-no cs r (p .1))
 
-not-all : (cs : List Asked) (r : Refusal) → NoAt cs r → All cs → ⊥
-not-all [] r n h = n
-not-all ((a else r₀) ∷ cs) r (inl p) h = p .0 (h .0)
-not-all ((a else r₀) ∷ cs) r (inr p) h = not-all cs r (p .1) (h .1)
-
--- several questions beside the facts they ask for
-abbrev pub Tied : List (List Asked) → List (Type 0) → Type 0
-Tied [] [] = Unit
-Tied [] (P ∷ Ps) = ⊥
-Tied (cs ∷ qs) [] = ⊥
-Tied (cs ∷ qs) (P ∷ Ps) = (All cs ↔ P) × Tied qs Ps
-
--- a refusal at place i
-record At (i : ℕ) (qs : List (List Asked)) (Ps : List (Type 0)) (r : Refusal) : Type 0 where
-  before : Each (take i Ps)
-  unmet : getD Ps i Unit → ⊥
-  first : NoAt (getD qs i []) r
-
 then-met : (f g : Found) → (f then g) ≡ Met → (f ≡ Met) × (g ≡ Met)
 then-met Met g e = (refl, e)
 then-met (Refused r) g e = let z : _≡_ {A = ℕ} 0 1 = cc in absurd (omega arith)
@@ -82,48 +64,16 @@ then-refused : (f g : Found) (r : Refusal) → (f then g) ≡ Refused r → (f �
 then-refused Met g r e = inr (refl, e)
 then-refused (Refused r₀) g r e = inl e
 
-pub each-when-met : (qs : List (List Asked)) (Ps : List (Type 0)) → Tied qs Ps → firstIn qs ≡ Met → Each Ps
-unfolding firstIn
-each-when-met [] [] t e = tt
-each-when-met [] (P ∷ Ps) t e = absurd t
-each-when-met (cs ∷ qs) [] t e = absurd t
-each-when-met (cs ∷ qs) (P ∷ Ps) t e =
-    let p = then-met (firstOf cs) (firstIn qs) e in
-    (t .0 .0 (all-when-met cs (p .0)), each-when-met qs Ps (t .1) (p .1))
-
-pub met-when-each : (qs : List (List Asked)) (Ps : List (Type 0)) → Tied qs Ps → Each Ps → firstIn qs ≡ Met
-unfolding firstIn
-met-when-each [] [] t h = refl
-met-when-each [] (P ∷ Ps) t h = absurd t
-met-when-each (cs ∷ qs) [] t h = absurd t
-met-when-each (cs ∷ qs) (P ∷ Ps) t h = rw (met-when-all cs (t .0 .1 (h .0))) (met-when-each qs Ps (t .1) (h .1))
-
-at-when-refused : (qs : List (List Asked)) (Ps : List (Type 0)) (r : Refusal) → Tied qs Ps → firstIn qs ≡ Refused r → (i : ℕ) × At i qs Ps r
-unfolding firstIn
-at-when-refused [] Ps r t e = let z : _≡_ {A = ℕ} 0 1 = cc in absurd (omega arith)
-at-when-refused (cs ∷ qs) [] r t e = absurd t
-at-when-refused (cs ∷ qs) (P ∷ Ps) r t e =
-    elim (then-refused (firstOf cs) (firstIn qs) r e) [
-      | inl p ↦ let n = no-when-refused cs r p in (0, record { before = tt; unmet = λ h. not-all cs r n (t .0 .1 h); first = n })
-      | inr p ↦
-          let a = at-when-refused qs Ps r (t .1) (p .1) in
-          (suc (a .0), record { before = (t .0 .0 (all-when-met cs (p .0)), a .1 .before); unmet = a .1 .unmet; first = a .1 .first })
-    ]
-
-pub refused-when-at : (i : ℕ) (qs : List (List Asked)) (Ps : List (Type 0)) (r : Refusal) → Tied qs Ps → Each (take i Ps) → NoAt (getD qs i []) r → firstIn qs ≡ Refused r
-unfolding firstIn
-refused-when-at i [] Ps r t b n = absurd n
-refused-when-at i (cs ∷ qs) [] r t b n = absurd t
-refused-when-at zero (cs ∷ qs) (P ∷ Ps) r t b n = rw (refused-when-no cs r n)
-refused-when-at (suc i) (cs ∷ qs) (P ∷ Ps) r t b n = rw (met-when-all cs (t .0 .1 (b .0))) (refused-when-at i qs Ps r (t .1) (b .1) n)
-
 -- What is told. Each claim's refusal tells the question's number k, the claim's line and the length.
 module _ (needed : ℕ) where
+  abbrev telling : ℕ → ℕ → Answer
+  telling k line = answer k line (length-told needed k)
+
   abbrev pub Told : ℕ → List Asked → List Lined → Type 0
   Told k [] [] = Unit
   Told k [] (l ∷ ls) = ⊥
   Told k (c ∷ cs) [] = ⊥
-  Told k ((a else r) ∷ cs) ((b at-line l) ∷ ls) = (a ≡ b) × (told r ≡ answer k l (length-told needed k)) × Told k cs ls
+  Told k ((a else r) ∷ cs) ((b at-line l) ∷ ls) = (a ≡ b) × (told r ≡ telling k l) × Told k cs ls
 
   -- the same of several questions, numbered from k on
   abbrev pub ToldFrom : ℕ → List (List Asked) → List (List Lined) → Type 0
@@ -132,15 +82,16 @@ module _ (needed : ℕ) where
   ToldFrom k (cs ∷ qs) [] = ⊥
   ToldFrom k (cs ∷ qs) (l ∷ ls) = Told k cs l × ToldFrom (suc k) qs ls
 
-  told-at : (k i : ℕ) (qs : List (List Asked)) (ls : List (List Lined)) → ToldFrom k qs ls → Told (k + i) (getD qs i []) (getD ls i [])
-  told-at k i [] [] t = tt
-  told-at k i [] (l ∷ ls) t = absurd t
-  told-at k i (cs ∷ qs) [] t = absurd t
-  told-at k zero (cs ∷ qs) (l ∷ ls) t = subst (λ (n : ℕ). Told n cs l) (omega arith) (t .0)
-  told-at k (suc i) (cs ∷ qs) (l ∷ ls) t = subst (λ (n : ℕ). Told n (getD qs i []) (getD ls i [])) (omega arith) (told-at (suc k) i qs ls (t .1))
+  pub all-so : (k : ℕ) (cs : List Asked) (ls : List Lined) → Told k cs ls → All cs ↔ So ls
+  all-so k [] [] t = (λ h. tt, λ h. tt)
+  all-so k [] (l ∷ ls) t = absurd t
+  all-so k (c ∷ cs) [] t = absurd t
+  all-so k ((a else r) ∷ cs) ((b at-line l) ∷ ls) t =
+      let more = all-so k cs ls (t .2) in
+      (λ h. (subst Holds (t .0) (h .0), more .0 (h .1)), λ h. (subst Holds (sym (t .0)) (h .0), more .1 (h .1)))
 
   -- the line and the answer at the first "no", and the other way round
-  line-told : (k : ℕ) (cs : List Asked) (ls : List Lined) (r : Refusal) → Told k cs ls → NoAt cs r → (l : ℕ) × FirstNo ls l × (told r ≡ answer k l (length-told needed k))
+  line-told : (k : ℕ) (cs : List Asked) (ls : List Lined) (r : Refusal) → Told k cs ls → NoAt cs r → (l : ℕ) × FirstNo ls l × (told r ≡ telling k l)
   line-told k [] ls r t n = absurd n
   line-told k (c ∷ cs) [] r t n = absurd t
   line-told k ((a else r₀) ∷ cs) ((b at-line l) ∷ ls) r t (inl p) =
@@ -149,48 +100,103 @@ module _ (needed : ℕ) where
       let m = line-told k cs ls r (t .2) (p .1) in
       (m .0, inr (subst Holds (t .0) (p .0), m .1), m .2)
 
-  refusal-told : (k : ℕ) (cs : List Asked) (ls : List Lined) (l : ℕ) → Told k cs ls → FirstNo ls l → (r : Refusal) × NoAt cs r × (told r ≡ answer k l (length-told needed k))
+  refusal-told : (k : ℕ) (cs : List Asked) (ls : List Lined) (l : ℕ) → Told k cs ls → FirstNo ls l → (r : Refusal) × NoAt cs r × (told r ≡ telling k l)
   refusal-told k [] [] l t n = absurd n
   refusal-told k [] (m ∷ ls) l t n = absurd t
   refusal-told k (c ∷ cs) [] l t n = absurd t
   refusal-told k ((a else r) ∷ cs) ((b at-line m) ∷ ls) l t (inl p) =
-      (r, inl (λ h. p .0 (subst Holds (t .0) h), refl), t .1 ∙ ap (λ (x : ℕ). answer k x (length-told needed k)) (p .1))
+      (r, inl (λ h. p .0 (subst Holds (t .0) h), refl), t .1 ∙ ap (telling k) (p .1))
   refusal-told k ((a else r) ∷ cs) ((b at-line m) ∷ ls) l t (inr p) =
       let x = refusal-told k cs ls l (t .2) (p .1) in
       (x .0, inr (subst Holds (sym (t .0)) (p .0), x .1), x .2)
 
-module _ (needed : ℕ) (qs : List (List Asked)) (ls : List (List Lined)) (Ps : List (Type 0)) (t : Tied qs Ps) (u : ToldFrom needed 2 qs ls) where
-  reason-when-refused : (r : Refusal) → firstIn qs ≡ Refused r → Reason ls Ps needed (told r)
-  reason-when-refused r e =
-      let at = at-when-refused qs Ps r t e in
-      let i = at .0 in
-      let m = line-told needed (2 + i) (getD qs i []) (getD ls i []) r (told-at needed 2 i qs ls u) (at .1 .first) in
-      subst (Reason ls Ps needed) (sym (m .2)) (reason i (m .0) (at .1) (m .1))
-    where
-      reason : (i l : ℕ) → At i qs Ps r → FirstNo (getD ls i []) l → Reason ls Ps needed (answer (2 + i) l (length-told needed (2 + i)))
-      reason i l at n =
-          let here : i ≡ 2 + i - 2 = omega arith in
-          record {
-            on-numbers = omega arith;
-            before = subst (λ (k : ℕ). Each (take k Ps)) here (at .before);
-            unmet = subst (λ (k : ℕ). getD Ps k Unit → ⊥) here (at .unmet);
-            first = subst (λ (k : ℕ). FirstNo (getD ls k []) l) here n;
-            size = refl;
-          }
+  -- no refusal is found exactly where all claims are so
+  pub met-when-so : (k : ℕ) (qs : List (List Asked)) (ls : List (List Lined)) → ToldFrom k qs ls → (firstIn qs ≡ Met) ↔ AllSo ls
+  unfolding firstIn
+  met-when-so k [] [] t = (λ e. tt, λ h. refl)
+  met-when-so k [] (l ∷ ls) t = absurd t
+  met-when-so k (cs ∷ qs) [] t = absurd t
+  met-when-so k (cs ∷ qs) (l ∷ ls) t =
+      let here = all-so k cs l (t .0) in
+      let more = met-when-so (suc k) qs ls (t .1) in (
+        λ e.
+            let p = then-met (firstOf cs) (firstIn qs) e in
+            (here .0 (all-when-met cs (p .0)), more .0 (p .1)),
+        λ h. rw (met-when-all cs (here .1 (h .0))) (more .1 (h .1)),
+      )
 
-  refused-when-reason : (a : Answer) → Reason ls Ps needed a → Found-as (firstIn qs) a
-  refused-when-reason a h =
-      let i = place a in
-      let number : 2 + i ≡ a .refusal = omega (arith, h .on-numbers) in
-      let x = refusal-told needed (2 + i) (getD qs i []) (getD ls i []) (a .line) (told-at needed 2 i qs ls u) (h .first) in
+  -- a refusal r at place i, on this line
+  record At (k : ℕ) (ls : List (List Lined)) (r : Refusal) (i : ℕ) (line : ℕ) : Type 0 where
+    before : AllSo (take i ls)
+    first : FirstNo (getD ls i []) line
+    tells : told r ≡ telling (k + i) line
+
+  at-when-refused : (k : ℕ) (qs : List (List Asked)) (ls : List (List Lined)) (r : Refusal) → ToldFrom k qs ls → firstIn qs ≡ Refused r
+      → (i : ℕ) × (line : ℕ) × At k ls r i line
+  unfolding firstIn
+  at-when-refused k [] ls r t e = let z : _≡_ {A = ℕ} 0 1 = cc in absurd (omega arith)
+  at-when-refused k (cs ∷ qs) [] r t e = absurd t
+  at-when-refused k (cs ∷ qs) (l ∷ ls) r t e =
+      elim (then-refused (firstOf cs) (firstIn qs) r e) [
+        | inl p ↦
+            let m = line-told k cs l r (t .0) (no-when-refused cs r p) in
+            let here : k ≡ k + 0 = omega arith in
+            (0, m .0, record { before = tt; first = m .1; tells = m .2 ∙ ap (λ (n : ℕ). telling n (m .0)) here })
+        | inr p ↦
+            let a = at-when-refused (suc k) qs ls r (t .1) (p .1) in
+            let next : suc k + a .0 ≡ k + suc (a .0) = omega arith in (
+              suc (a .0),
+              a .1,
+              record {
+                before = (all-so k cs l (t .0) .0 (all-when-met cs (p .0)), a .2 .before);
+                first = a .2 .first;
+                tells = a .2 .tells ∙ ap (λ (n : ℕ). telling n (a .1)) next;
+              },
+            )
+      ]
+
+  refused-when-at : (k i : ℕ) (qs : List (List Asked)) (ls : List (List Lined)) (line : ℕ) → ToldFrom k qs ls → AllSo (take i ls) → FirstNo (getD ls i []) line
+      → Found-as (firstIn qs) (telling (k + i) line)
+  unfolding firstIn
+  refused-when-at k i [] [] line t b n = absurd n
+  refused-when-at k i [] (l ∷ ls) line t b n = absurd t
+  refused-when-at k i (cs ∷ qs) [] line t b n = absurd t
+  refused-when-at k zero (cs ∷ qs) (l ∷ ls) line t b n =
+      let x = refusal-told k cs l line (t .0) n in
+      let here : k ≡ k + 0 = omega arith in
+      record { refusal = x .0; found = rw (refused-when-no cs (x .0) (x .1)); tells = x .2 ∙ ap (λ (n : ℕ). telling n line) here }
+  refused-when-at k (suc i) (cs ∷ qs) (l ∷ ls) line t b n =
+      let f = refused-when-at (suc k) i qs ls line (t .1) (b .1) n in
+      let next : suc k + i ≡ k + suc i = omega arith in
       record {
-        refusal = x .0;
-        found = refused-when-at i qs Ps (x .0) t (h .before) (x .1);
-        tells =
-            x .2 ∙ ap (λ (k : ℕ). answer k (a .line) (length-told needed k)) number
-            ∙ ap (answer (a .refusal) (a .line)) (sym (h .size));
+        refusal = f .refusal;
+        found = rw (met-when-all cs (all-so k cs l (t .0) .1 (b .0))) (f .found);
+        tells = f .tells ∙ ap (λ (n : ℕ). telling n line) next;
       }
 
   -- a refusal that tells a is found exactly where there is a reason for a
-  pub found-with-reason : (a : Answer) → Found-as (firstIn qs) a ↔ Reason ls Ps needed a
-  found-with-reason a = (λ f. subst (Reason ls Ps needed) (f .tells) (reason-when-refused (f .refusal) (f .found)), refused-when-reason a)
+  module _ (qs : List (List Asked)) (ls : List (List Lined)) (t : ToldFrom 2 qs ls) where
+    reason-at : (i line : ℕ) → AllSo (take i ls) → FirstNo (getD ls i []) line → Reason ls needed (telling (2 + i) line)
+    reason-at i line b n =
+        let here : i ≡ 2 + i - 2 = omega arith in
+        record {
+          on-numbers = omega arith;
+          before = subst (λ (k : ℕ). AllSo (take k ls)) here b;
+          first = subst (λ (k : ℕ). FirstNo (getD ls k []) line) here n;
+          size = refl;
+        }
+
+    pub found-with-reason : (a : Answer) → Found-as (firstIn qs) a ↔ Reason ls needed a
+    found-with-reason a = (
+      λ f.
+          let at = at-when-refused 2 qs ls (f .refusal) t (f .found) in
+          subst (Reason ls needed) (sym (at .2 .tells) ∙ f .tells) (reason-at (at .0) (at .1) (at .2 .before) (at .2 .first)),
+      λ h.
+          let number : 2 + place a ≡ a .refusal = omega (arith, h .on-numbers) in
+          let f = refused-when-at 2 (place a) qs ls (a .line) t (h .before) (h .first) in
+          record {
+            refusal = f .refusal;
+            found = f .found;
+            tells = f .tells ∙ ap (λ (k : ℕ). telling k (a .line)) number ∙ ap (answer (a .refusal) (a .line)) (sym (h .size));
+          },
+    )

@@ -1,7 +1,6 @@
 -- The thirteen marked cases of document 01 hold: each is computed. So this file opens the formulas of pair and of section, which no other
 -- proof of this crate does.
 use mathlib.Core.Path.{_≡_, refl}
-use mathlib.Core.List.{map}
 use mathlib.Core.Bool.{true}
 use lib.IntN.{ℤ}
 use lib.ListN.{length}
@@ -19,18 +18,19 @@ use Rattle.text.specs.Keys.{keys, keyOf, kindOf}
 use Rattle.text.specs.Decimal.{decimal, integerText}
 use Rattle.text.specs.Lines.{letterOf, valueText, lineText, linesFrom, longestLine, longestFrom}
 use Rattle.text.specs.Reading.{ended, readDigits, readNumber, readShift, readLetter, readValue, begins, readLine, prepend, readEnd, andThen, readFrom}
-use Rattle.certificate.specs.Questions.{ranges, values, ranged, question2, question3, question4, question5, question6, question7, question8, question9}
+use Rattle.certificate.specs.Questions.{ranges, ranged, question2, question3, question4, question5, question6, question7, question8, question9}
+use Rattle.certificate.specs.Certificates.{values}
 use Rattle.certificate.specs.Questions.{question10, question11, onNumbers, questions, firstOf, firstIn}
-use Rattle.certificate.specs.Reasons.{Each}
 use Rattle.certificate.specs.Certificates.{sheetValues, figureValues, certificateValues, certificateOf, sheetShown, figuresShown}
-use Rattle.certificate.specs.Outcome.{fitting, question12, writing, settled, outcomeOf, outcomeRead, outcome, answerOf}
-use Rattle.certificate.specs.MarkedCases.{Says, sheetA, sheetB, sheet11, sheet12, sheet13, figuresRead, figuresIn, figuresB, marked}
+use Rattle.certificate.specs.Outcome.{fitting, question12, writing, settled, outcomeOf, outcomeRead, outcome}
+use Rattle.certificate.specs.Answers.{answerOf}
+use Rattle.certificate.specs.MarkedCases.{Says, Each, sheetA, sheetB, sheet11, sheet12, sheet13, figuresRead, figuresIn, figuresB, marked}
 
 between : {least x most : ℤ} → lebℤ least x ≡ true → lebℤ x most ≡ true → (least ≤ℤ x) × (x ≤ℤ most)
 between low high = (lebℤ-true _ _ low, lebℤ-true _ _ high)
 
 -- there are thirteen marked cases, and each holds
-pub marked-cases : (length marked ≡ 13) × Each (map Says marked)
+pub marked-cases : (length marked ≡ 13) × Each marked
 unfolding
     -- of pair
     ceilDiv rootUp exact ratio plus minus times over root cubeRoot

@@ -30,7 +30,8 @@ use Rattle.certificate.specs.Refusals.{answer, told}
 use Rattle.certificate.specs.Questions.{_else_, questions, firstOf, firstIn, Judged, accepted, judged, verdict, verdictOf}
 use Rattle.certificate.specs.Questions.{refused as turned}
 use Rattle.certificate.specs.Certificates.{sheetValues, figureValues, certificateValues, certificateOf, sheetShown}
-use Rattle.certificate.specs.Outcome.{fitting, question12, agreeing, question13, writing, checking, Outcome, refused, written, settled, fitted, outcomeOf, outcomeRead, outcome, answerOf, bufferAfter, checkedRead, checked, checkAnswer}
+use Rattle.certificate.specs.Outcome.{fitting, question12, agreeing, question13, writing, checking, settled, fitted, outcomeOf, outcomeRead, outcome, checkedRead, checked}
+use Rattle.certificate.specs.Answers.{Outcome, refused, written, answerOf, bufferAfter, checkAnswer}
 use Rattle.certificate.proofs.Steps.{in-turn, then-nothing}
 use Rattle.certificate.proofs.Theorems.{judged-refused, judged-accepted, accepted-is-met}
 use Rattle.certificate.proofs.Shown.{length-most}

@@ -6,10 +6,10 @@ use mathlib.Core.Path.{_≡_, refl, sym, ap, _∙_, subst}
 use native.Mathlib.Nat.{mul-one}
 use native.Mathlib.Omega.{arith}
 use lib.IntN.{ℤ}
-use lib.ListN.{length, take}
+use lib.ListN.{length, take, drop}
 use lib.Seq.{take-all}
 use Rattle.section.specs.declared.Sheet.{Sheet}
-use Rattle.section.specs.Sheets.{Sound}
+use Rattle.section.specs.Sound.{Sound}
 use Rattle.section.specs.Working.{worked}
 use Rattle.section.specs.Figures.{Printed, figures, Question11, Held}
 use Rattle.section.proofs.Theorems.{finer-working-held}
@@ -25,13 +25,14 @@ use Rattle.certificate.specs.declared.Found.{Found}
 use Rattle.certificate.specs.declared.Found.the-variants.{Refused, Met}
 use Rattle.certificate.specs.Refusals.{answer, told}
 use Rattle.certificate.specs.Questions.{firstIn}
-use Rattle.certificate.specs.Reasons.{Each, Reason, facts-on-numbers, facts, Found-as, Refuses}
+use Rattle.certificate.specs.Reasons.{lines-on-numbers, lines-of, AllSo, Reason, Found-as, Refuses}
 use Rattle.certificate.specs.Certificates.{sheetValues, figureValues, certificateValues, certificateOf, sheetShown, figuresShown}
-use Rattle.certificate.specs.Outcome.{writing, checking, refused, written, settled, Outcome, outcomeOf, outcomeRead, outcome, answerOf, checkedRead, checked, checkAnswer}
-use Rattle.certificate.specs.Promises.{Question1, Question12, Question13, facts-of-writing, facts-of-checking, lines-of-writing, lines-of-checking, Written, Misspelt, NumbersUnmet, Unmet, Unlike, Issued, HoldsFinerWorkings, own-lines, WrittenAndHeld, HeldForItsSheet, FinerWorkingsHeld}
-use Rattle.certificate.proofs.FirstNos.{each-when-met, met-when-each, found-with-reason}
-use Rattle.certificate.proofs.Ties.{writing-tied, checking-tied, writing-told, checking-told}
-use Rattle.certificate.proofs.Theorems.{each-is-sound, each-of-both}
+use Rattle.certificate.specs.Outcome.{writing, checking, settled, outcomeOf, outcomeRead, outcome, checkedRead, checked}
+use Rattle.certificate.specs.Answers.{refused, written, Outcome, answerOf, checkAnswer}
+use Rattle.certificate.specs.Promises.{Question1, lines12, lines13, lines-of-writing, lines-of-checking, Written, Misspelt, NumbersUnmet, Unmet, Unlike, Issued, HoldsFinerWorkings, own-lines, WrittenAndHeld, HeldForItsSheet, FinerWorkingsHeld}
+use Rattle.certificate.proofs.FirstNos.{met-when-so, found-with-reason}
+use Rattle.certificate.proofs.Ties.{writing-told, checking-told, figures-agree}
+use Rattle.certificate.proofs.Theorems.{so-of-both, so-is-allowed}
 use Rattle.certificate.proofs.Shown.{sheet-back, figures-back, sheet-count, behind-sheet, sheet-alone, values-back, split-at-sheet, sheet-spelt, certificate-text, length-most}
 use Rattle.certificate.proofs.OutcomeSteps.{bad-sheet, right-sheet, bad-certificate, right-certificate}
 
@@ -83,28 +84,27 @@ own-lines-then q =
 -- Twelve numbers.
 module _ (q : Sheet) (room : ℕ) where
   -- they are written exactly where they meet questions 2 to 12, and then as their certificate
-  pub numbers-written : (t : List ℕ) → (outcomeOf q room ≡ written t) ↔ (Each (facts-of-writing room q) × (t ≡ certificateOf q))
+  pub numbers-written : (t : List ℕ) → (outcomeOf q room ≡ written t) ↔ (AllSo (lines-of-writing room q) × (t ≡ certificateOf q))
   unfolding outcomeOf
   numbers-written t =
       let s = settled-written (firstIn (writing room q)) (certificateOf q) t in
-      let tied = writing-tied q room in (
-        λ e. let h = s .0 e in (each-when-met (writing room q) (facts-of-writing room q) tied (h .0), h .1),
-        λ h. s .1 (met-when-each (writing room q) (facts-of-writing room q) tied (h .0), h .1),
-      )
+      let met = met-when-so _ 2 (writing room q) (lines-of-writing room q) (writing-told q room) in
+      (λ e. let h = s .0 e in (met .0 (h .0), h .1), λ h. s .1 (met .1 (h .0), h .1))
 
   -- and refused, with its number, line and length, exactly where there is a reason
   pub numbers-refused : (a : Answer) → Refuses (answerOf (outcomeOf q room)) a ↔ NumbersUnmet q room a
   unfolding outcomeOf
   numbers-refused a =
       let e = found-answered (firstIn (writing room q)) (certificateOf q) a in
-      let r = found-with-reason _ (writing room q) (lines-of-writing room q) (facts-of-writing room q) (writing-tied q room) (writing-told q room) a in
+      let r = found-with-reason _ (writing room q) (lines-of-writing room q) (writing-told q room) a in
       (λ h. r .0 (e .0 h .0), λ h. e .1 (r .1 h, omega (arith, h .on-numbers)))
 
-  facts-are : Each (facts-of-writing room q) → Sound q × Question11 1 q
-  facts-are h =
-      let both = each-of-both (facts q) (Question12 room q ∷ []) .0 h in
-      let more = each-of-both (facts-on-numbers q) (Question11 1 q ∷ []) .0 (both .0) in
-      (each-is-sound q .0 (more .0), more .1 .0)
+  -- the claims of writing are those up to the eleventh, and that the certificate fits
+  claims-are : AllSo (lines-of-writing room q) ↔ (AllSo (lines-of q) × (length (certificateOf q) ≤ room))
+  unfolding lines-of-writing lines12
+  claims-are =
+      let both = so-of-both (lines-of q) (lines12 room q ∷ []) in
+      (λ h. let b = both .0 h in (b .0, b .1 .0 .0), λ h. both .1 (h .0, ((h .1, tt), tt)))
 
   -- the call with numbers does what `write` does on their text, where they have one
   pub numbers-as-text : SpeltFrom 0 (sheetValues q) → outcomeOf q room ≡ outcome (linesText (sheetValues q)) room
@@ -182,12 +182,12 @@ module _ (c : List ℕ) where
   found-checked Met a = found-answered Met c a
 
   checked-with-reason : (vs : List ℤ) → readLines certificateLines c ≡ values vs → (a : Answer)
-      → Refuses (checkAnswer c (checked c)) a ↔ Reason (lines-of-checking vs (sheetShown vs)) (facts-of-checking vs (sheetShown vs)) 0 a
+      → Refuses (checkAnswer c (checked c)) a ↔ Reason (lines-of-checking vs (sheetShown vs)) 0 a
   checked-with-reason vs g a =
       let q = sheetShown vs in
       let n = lines-count vs g in
       let e = found-checked (checked c) a in
-      let r = found-with-reason 0 (checking vs q) (lines-of-checking vs q) (facts-of-checking vs q) (checking-tied vs q n) (checking-told vs q n) a in
+      let r = found-with-reason 0 (checking vs q) (lines-of-checking vs q) (checking-told vs q n) a in
       let same = right-certificate c vs g in (
         λ h. r .0 (subst (λ (f : Found). Found-as f a) same (e .0 h .0)),
         λ h. e .1 (subst (λ (f : Found). Found-as f a) (sym same) (r .1 h), omega (arith, h .on-numbers)),
@@ -209,36 +209,47 @@ module _ (c : List ℕ) where
         (λ u. checked-with-reason (u .shown) (reads-values certificateLines c (u .shown) .1 (u .text)) a .1 (u .reason)),
   )
 
-  -- what passes is the certificate of the sheet that it shows
-  passed-is : (vs : List ℤ) → readLines certificateLines c ≡ values vs → checked c ≡ Met → Each (facts (sheetShown vs)) × (c ≡ certificateOf (sheetShown vs))
+  -- what passes meets the questions up to the eleventh, and its lines behind the sheet's are the figures'
+  passed-claims : (vs : List ℤ) → readLines certificateLines c ≡ values vs
+      → (checked c ≡ Met) ↔ (AllSo (lines-of (sheetShown vs)) × (drop sheetLines vs ≡ figureValues (figures 1 (sheetShown vs))))
+  unfolding lines-of-checking
+  passed-claims vs g =
+      let q = sheetShown vs in
+      let n = lines-count vs g in
+      let same = right-certificate c vs g in
+      let met = met-when-so 0 2 (checking vs q) (lines-of-checking vs q) (checking-told vs q n) in
+      let both = so-of-both (lines-of q) ([] ∷ lines13 vs q ∷ []) in
+      let agree = figures-agree vs q n in (
+        λ e. let b = both .0 (met .0 (sym same ∙ e)) in (b .0, agree .0 (b .1 .1 .0)),
+        λ h. same ∙ met .1 (both .1 (h .0, (tt, (agree .1 (h .1), tt)))),
+      )
+
+  -- so it is the certificate of the sheet that it shows
+  passed-is : (vs : List ℤ) → readLines certificateLines c ≡ values vs → checked c ≡ Met → AllSo (lines-of (sheetShown vs)) × (c ≡ certificateOf (sheetShown vs))
   unfolding certificateOf certificateValues
   passed-is vs g e =
       let q = sheetShown vs in
       let t = reads-values certificateLines c vs .0 g in
-      let met = each-when-met (checking vs q) (facts-of-checking vs q) (checking-tied vs q (t .count)) (sym (right-certificate c vs g) ∙ e) in
-      let both = each-of-both (facts q) (Unit ∷ Question13 vs q ∷ []) .0 met in
-      let parts = split-at-sheet vs (omega (arith, t .count)) (t .spelt) ∙ ap (λ (l : List ℤ). sheetValues q ++ l) (both .1 .1 .0 .agree) in
-      (both .0, t .text ∙ ap linesText parts)
+      let p = passed-claims vs g .0 e in
+      let parts = split-at-sheet vs (omega (arith, t .count)) (t .spelt) ∙ ap (λ (l : List ℤ). sheetValues q ++ l) (p .1) in
+      (p .0, t .text ∙ ap linesText parts)
 
   -- and the certificate of a sheet that meets the questions passes
-  passes-for : (q : Sheet) → Each (facts q) → c ≡ certificateOf q → checked c ≡ Met
+  passes-for : (q : Sheet) → AllSo (lines-of q) → c ≡ certificateOf q → checked c ≡ Met
   unfolding certificateValues
   passes-for q h e =
-      let sound = each-is-sound q .0 (each-of-both (facts-on-numbers q) (Question11 1 q ∷ []) .0 h .0) in
+      let p = figureValues (figures 1 q) in
       let vs = certificateValues q in
-      let t = subst (TextOf certificateLines vs) (sym e) (certificate-text q sound) in
-      let g = reads-values certificateLines c vs .1 t in
-      let agree : Question13 vs q = record { agree = behind-sheet q (figureValues (figures 1 q)) } in
-      right-certificate c vs g
-      ∙ ap (λ (x : Sheet). firstIn (checking vs x)) (sheet-back q (figureValues (figures 1 q)))
-      ∙ met-when-each (checking vs q) (facts-of-checking vs q) (checking-tied vs q (t .count)) (each-of-both (facts q) (Unit ∷ Question13 vs q ∷ []) .1 (h, (tt, (agree, tt))))
+      let t = subst (TextOf certificateLines vs) (sym e) (certificate-text q (so-is-allowed q .0 h .0)) in
+      let back = sym (sheet-back q p) in
+      passed-claims vs (reads-values certificateLines c vs .1 t) .1
+      (subst (λ (x : Sheet). AllSo (lines-of x)) back h, subst (λ (x : Sheet). drop sheetLines vs ≡ figureValues (figures 1 x)) back (behind-sheet q p))
 
 -- a certificate of a sheet that meets questions 2 to 11 is written, given room
-issued-for : (q : Sheet) → Each (facts q) → outcomeOf q (length (certificateOf q)) ≡ written (certificateOf q)
+issued-for : (q : Sheet) → AllSo (lines-of q) → outcomeOf q (length (certificateOf q)) ≡ written (certificateOf q)
 issued-for q h =
     let room = length (certificateOf q) in
-    let fits : Question12 room q = record { fits = omega arith } in
-    numbers-written q room (certificateOf q) .1 (each-of-both (facts q) (Question12 room q ∷ []) .1 (h, (fits, tt)), refl)
+    numbers-written q room (certificateOf q) .1 (claims-are q room .1 (h, omega arith), refl)
 
 -- a certificate passes exactly where some sheet, given room, is written as it
 pub passes-when-issued : (c : List ℕ) → (checked c ≡ Met) ↔ Issued c
@@ -248,7 +259,7 @@ passes-when-issued c = (
       (λ vs g.
       let q = sheetShown vs in
       let p = passed-is c vs g e in
-      let sound = each-is-sound q .0 (each-of-both (facts-on-numbers q) (Question11 1 q ∷ []) .0 (p .0) .0) in
+      let sound = so-is-allowed q .0 (p .0) .0 in
       record {
         sheet = linesText (sheetValues q);
         room = length (certificateOf q);
@@ -257,28 +268,27 @@ passes-when-issued c = (
       (λ l g. absurd (met-not-refused (sym (bad-certificate c l g) ∙ e))),
   λ i.
       let w = sheet-written (i .sheet) (i .room) c .0 (i .writes) in
-      passes-for c (w .sheet) (each-of-both (facts (w .sheet)) (Question12 (i .room) (w .sheet) ∷ []) .0 (w .questions) .0) (w .text),
+      passes-for c (w .sheet) (claims-are (w .sheet) (i .room) .0 (w .questions) .0) (w .text),
 )
 
 -- A written certificate is no longer than the longest.
 pub numbers-length : (q : Sheet) (room : ℕ) (t : List ℕ) → outcomeOf q room ≡ written t → length t ≤ longest certificateLines
 numbers-length q room t e =
     let h = numbers-written q room t .0 e in
-    omega (arith, ap length (h .1), length-most q (facts-are q room (h .0) .0))
+    omega (arith, ap length (h .1), length-most q (so-is-allowed q .0 (claims-are q room .0 (h .0) .0) .0))
 
 pub sheet-length : (s : List ℕ) (room : ℕ) (t : List ℕ) → outcome s room ≡ written t → length t ≤ longest certificateLines
 sheet-length s room t e =
     let h = sheet-written s room t .0 e in
-    omega (arith, ap length (h .text), length-most (h .sheet) (facts-are (h .sheet) room (h .questions) .0))
+    omega (arith, ap length (h .text), length-most (h .sheet) (so-is-allowed (h .sheet) .0 (claims-are (h .sheet) room .0 (h .questions) .0) .0))
 
 -- So a room of the longest never is too small, for numbers and for text.
 module _ (room : ℕ) (enough : longest certificateLines ≤ room) where
   not-unmet : (q : Sheet) (a : Answer) → a .refusal ≡ 12 → NumbersUnmet q room a → ⊥
+  unfolding lines-of-writing lines-of lines-on-numbers lines12
   not-unmet q a e h =
-      let here = rw e at (h .before) in
-      let sound = each-is-sound q .0 (each-of-both (facts-on-numbers q) (Question11 1 q ∷ []) .0 here .0) in
-      let unmet = rw e at (h .unmet) in
-      unmet (record { fits = omega (arith, enough, length-most q sound) })
+      let sound = so-is-allowed q .0 (rw e at (h .before)) .0 in
+      ⊎-elim (λ n. n .0 (omega (arith, enough, length-most q sound))) (λ n. n .1) (rw e at (h .first))
 
   pub room-for-numbers : (q : Sheet) → (answerOf (outcomeOf q room)) .refusal ≡ 12 → ⊥
   room-for-numbers q e =
@@ -313,11 +323,11 @@ cut-certificate c m h =
 
 -- The third demand, entire.
 module _ (q : Sheet) where
-  held-by : Each (facts q) → HoldsFinerWorkings q (own-lines q) (certificateOf q)
+  held-by : AllSo (lines-of q) → HoldsFinerWorkings q (own-lines q) (certificateOf q)
   unfolding certificateValues
   held-by h =
-      let more = each-of-both (facts-on-numbers q) (Question11 1 q ∷ []) .0 h in
-      let sound = each-is-sound q .0 (more .0) in
+      let met = so-is-allowed q .0 h in
+      let sound = met .0 in
       let vs = certificateValues q in
       record {
         own-lines-first = own-lines-then q;
@@ -325,7 +335,7 @@ module _ (q : Sheet) where
         read = reads-values certificateLines (certificateOf q) vs .1 (certificate-text q sound);
         held =
             λ m one.
-            let coarse = finer-working-held {n = 1} {m = m} q (omega arith) one sound (more .1 .0) in
+            let coarse = finer-working-held {n = 1} {m = m} q (omega arith) one sound (met .1) in
             let here : Held m (figures 1 q) (q .allow) (q .fyb) (q .gm0) (worked m q) =
             subst (λ (k : ℕ). Held k (figures 1 q) (q .allow) (q .fyb) (q .gm0) (worked k q)) (mul-one m) coarse in
             subst (λ (x : Sheet). Held m (figuresShown vs) (x .allow) (x .fyb) (x .gm0) (worked m q)) (sym (sheet-back q (figureValues (figures 1 q))))
@@ -334,11 +344,11 @@ module _ (q : Sheet) where
 
   module _ (room : ℕ) where
     -- of numbers that meet the questions, and of those that are written
-    held-for-numbers : (c : List ℕ) → Each (facts-of-writing room q) → c ≡ certificateOf q → HoldsFinerWorkings q (own-lines q) c
-    held-for-numbers c h e = subst (HoldsFinerWorkings q (own-lines q)) (sym e) (held-by (each-of-both (facts q) (Question12 room q ∷ []) .0 h .0))
+    held-for-numbers : (c : List ℕ) → AllSo (lines-of-writing room q) → c ≡ certificateOf q → HoldsFinerWorkings q (own-lines q) c
+    held-for-numbers c h e = subst (HoldsFinerWorkings q (own-lines q)) (sym e) (held-by (claims-are q room .0 h .0))
 
     -- and of the bytes s that show them
-    held-for-text : (s c : List ℕ) → Question1 s q → Each (facts-of-writing room q) → c ≡ certificateOf q → HoldsFinerWorkings q s c
+    held-for-text : (s c : List ℕ) → Question1 s q → AllSo (lines-of-writing room q) → c ≡ certificateOf q → HoldsFinerWorkings q s c
     held-for-text s c g h e = subst (λ (l : List ℕ). HoldsFinerWorkings q l c) (sym (g .text .text)) (held-for-numbers c h e)
 
 pub finer-workings-held : FinerWorkingsHeld

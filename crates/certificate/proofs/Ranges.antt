@@ -10,7 +10,8 @@ use Rattle.section.specs.declared.Span.{Span}
 use Rattle.section.specs.Claims.{test}
 use Rattle.certificate.specs.declared.Refusal.the-variants.{Range}
 use Rattle.certificate.specs.declared.Found.the-variants.{Refused, Met}
-use Rattle.certificate.specs.Questions.{_else_, inside, ranged, firstOf}
+use Rattle.certificate.specs.Questions.{_else_, ranged, firstOf}
+use Rattle.section.specs.Sheets.{inside}
 
 module _ (line : ℕ) (ss : List Span) (vs : List ℕ) (i : ℕ) (d : Span) (a : i < length ss) (b : i < length vs) where
   here : ranged line (drop i ss) (drop i vs) ≡ (inside (getD ss i d) (getD vs i 0) else Range line) ∷ ranged (line + 1) (drop (i + 1) ss) (drop (i + 1) vs)

@@ -6,18 +6,19 @@ use native.Mathlib.Omega.{arith}
 use lib.IntN.{ℤ, pos, natAbs}
 use lib.ListN.{length, getD, take, drop, take-append-drop}
 use lib.Seq.{take-all, drop-cons, length-take-le}
-use Rattle.pair.specs.SignedPairs.{integer, plain}
+use Rattle.pair.specs.Forms.{integer, plain}
 use Rattle.pair.specs.declared.signed.Integer.{Integer}
 use Rattle.pair.proofs.IntegerForms.{plain-means, integer-size}
 use Rattle.section.specs.declared.Sheet.{Sheet}
-use Rattle.section.specs.Sheets.{Question2, Sound}
-use Rattle.section.specs.Figures.{Printed, figures, FiguresBelow}
+use Rattle.section.specs.Sound.{Question2, Sound}
+use Rattle.section.specs.Figures.{Printed, figures}
+use Rattle.section.proofs.PrintedFigures.{FiguresBelow}
 use Rattle.section.proofs.Theorems.{figures-have-ten-digits}
 use Rattle.text.specs.Keys.{sheetLines, certificateLines}
 use Rattle.text.specs.Lines.{SpeltFrom, longest, TextOf}
 use Rattle.text.specs.Forms.{integers}
 use Rattle.text.proofs.Theorems.{form-spelt, number-spelt, shift-spelt, spelt-none, spelt-more, spelt-join, spelt-split, numbers-above, text-at-most}
-use Rattle.certificate.specs.Questions.{sheetOf, values}
+use Rattle.certificate.specs.Certificates.{sheetOf, values}
 use Rattle.certificate.specs.Certificates.{sheetValues, figureValues, certificateValues, certificateOf, valueAt, numberAt, sheetShown, figuresShown}
 
 -- what the code holds of a line

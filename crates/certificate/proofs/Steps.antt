@@ -1,11 +1,13 @@
 -- The steps of the code that answers: the second question, and the eleventh.
 use mathlib.Core.Path.{_≡_, refl, sym, _∙_}
 use mathlib.Core.Bool.{Bool, true, false}
-use mathlib.Core.Logic.{inl}
+use mathlib.Core.Logic.{inl, _↔_}
+use native.Mathlib.Omega.{arith}
 use mathlib.Core.List.{List, [], _∷_, _++_}
 use Rattle.section.specs.declared.Sheet.{Sheet}
 use Rattle.section.specs.declared.Figures.{Figures}
-use Rattle.section.specs.Figures.{figures, allowed}
+use Rattle.section.specs.Figures.{figures, allowed, Question11}
+use Rattle.section.specs.Sound.{Question2}
 use Rattle.section.specs.Forms.{figuresOf}
 use Rattle.section.proofs.PrintedFigures.{allowed-is-met, not-allowed-is-unmet}
 use Rattle.certificate.specs.declared.Refusal.{Refusal}
@@ -14,9 +16,9 @@ use Rattle.certificate.specs.declared.Found.{Found}
 use Rattle.certificate.specs.declared.Found.the-variants.{Refused, Met}
 use Rattle.certificate.specs.declared.Verdict.{Verdict}
 use Rattle.certificate.specs.declared.Verdict.the-variants.{Refused as Turned, Accepted}
-use Rattle.certificate.specs.Questions.{Asked, question2, question11, onNumbers, questions, from, _then_, firstOf, firstIn, firstRefusal, judged, verdict, verdictOf}
-use Rattle.certificate.proofs.FirstNos.{met-when-all, refused-when-no}
-use Rattle.certificate.proofs.Ties.{tied11}
+use Rattle.certificate.specs.Questions.{Asked, ranges, ranged, question2, question11, onNumbers, questions, from, _then_, firstOf, firstIn, firstRefusal, judged, verdict, verdictOf}
+use Rattle.certificate.specs.Certificates.{values}
+use Rattle.certificate.proofs.FirstNos.{All, all-when-met, met-when-all, refused-when-no}
 
 pub then-nothing : (f : Found) → (f then Met) ≡ f
 then-nothing Met = refl
@@ -40,12 +42,24 @@ module _ (q : Sheet) where
   unfolding firstRefusal onNumbers from firstIn
   passed-second e k l = rw (sym e ∙ k) l
 
+  asked2 : All (question2 q) → Question2 q
+  unfolding question2 ranged ranges values
+  asked2 h = omega arith
+
+  -- the second is met
+  pub in-range : firstOf (question2 q) ≡ Met → Question2 q
+  in-range e = asked2 (all-when-met (question2 q) e)
+
+  asked11 : All (question11 q) ↔ Question11 1 q
+  unfolding question11
+  asked11 = (λ h. record { allowed = h .0 }, λ h. (h .allowed, tt))
+
   eleventh-met : allowed 1 q ≡ true → firstOf (question11 q) ≡ Met
-  eleventh-met e = met-when-all (question11 q) (tied11 q .1 (allowed-is-met 1 q .0 e))
+  eleventh-met e = met-when-all (question11 q) (asked11 .1 (allowed-is-met 1 q .0 e))
 
   eleventh-unmet : allowed 1 q ≡ false → firstOf (question11 q) ≡ Refused Allowance
   unfolding question11
-  eleventh-unmet e = refused-when-no (question11 q) Allowance (inl (λ a. not-allowed-is-unmet 1 q .0 e (tied11 q .0 (a, tt)), refl))
+  eleventh-unmet e = refused-when-no (question11 q) Allowance (inl (λ a. not-allowed-is-unmet 1 q .0 e (asked11 .0 (a, tt)), refl))
 
   pub within : {b : Bool} {f : Figures} → b ≡ allowed 1 q → b ≡ true → f ≡ figuresOf (figures 1 q) → Accepted f ≡ verdictOf (judged (firstOf (question11 q)) (figures 1 q))
   unfolding judged verdictOf

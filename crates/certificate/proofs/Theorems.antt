@@ -1,47 +1,72 @@
 -- What is proved of the questions on twelve numbers, in one place.
 use Prim.Native.Nat.{ℕ}
 use mathlib.Core.Path.{_≡_, refl}
-use mathlib.Core.Logic.{_↔_, inl}
+use mathlib.Core.Logic.{_↔_, inl, ⊎-elim}
 use mathlib.Core.List.{List, [], _∷_, _++_}
 use native.Mathlib.Omega.{arith}
 use Rattle.section.specs.declared.Sheet.{Sheet}
-use Rattle.section.specs.Sheets.{Sound}
+use Rattle.section.specs.Sound.{Sound}
 use Rattle.section.specs.Figures.{Printed, figures, Question11}
 use Rattle.certificate.specs.declared.Refusal.{Refusal}
-use Rattle.certificate.specs.declared.Refusal.the-variants.{Allowance}
 use Rattle.certificate.specs.declared.Found.{Found}
 use Rattle.certificate.specs.declared.Found.the-variants.{Refused, Met}
 use Rattle.certificate.specs.Questions.{question11, onNumbers, questions, firstIn, firstRefusal, refused, accepted, judged, verdict}
 use Rattle.certificate.specs.declared.Answer.{Answer}
-use Rattle.certificate.specs.Refusals.{told}
-use Rattle.certificate.specs.Reasons.{Each, Reason, facts-on-numbers, facts, lines-on-numbers, lines-of, Found-as, Judged-as}
-use Rattle.certificate.proofs.FirstNos.{each-when-met, met-when-each, refused-when-at, found-with-reason}
-use Rattle.certificate.proofs.Ties.{tied11, on-numbers-tied, questions-tied, on-numbers-told, questions-told}
+use Rattle.certificate.specs.Refusals.{answer}
+use Rattle.certificate.specs.Reasons.{Lined, lines-on-numbers, lines11, lines-of, AllSo, Reason, Found-as, Judged-as}
+use Rattle.certificate.proofs.FirstNos.{met-when-so, found-with-reason}
+use Rattle.certificate.proofs.Ties.{on-numbers-told, questions-told}
 
-pub each-is-sound : (q : Sheet) → Each (facts-on-numbers q) ↔ Sound q
-each-is-sound q = (
-  λ h. record { q2 = h .0; q3 = h .1 .0; q4 = h .1 .1 .0; q5 = h .1 .1 .1 .0; q6 = h .1 .1 .1 .1 .0; q7 = h .1 .1 .1 .1 .1 .0; q8 = h .1 .1 .1 .1 .1 .1 .0; q9 = h .1 .1 .1 .1 .1 .1 .1 .0; q10 = h .1 .1 .1 .1 .1 .1 .1 .1 .0 },
-  λ s. (s .q2, (s .q3, (s .q4, (s .q5, (s .q6, (s .q7, (s .q8, (s .q9, (s .q10, tt))))))))),
+-- the claims of questions 2 to 10 are what section's theorems ask for
+pub so-is-sound : (q : Sheet) → AllSo (lines-on-numbers q) ↔ Sound q
+unfolding lines-on-numbers
+so-is-sound q = (
+  λ h. record {
+    q2 = omega (arith, h .0);
+    q3 = omega (arith, h .1 .0);
+    q4 = omega (arith, h .1 .1 .0);
+    q5 = omega (arith, h .1 .1 .1 .0);
+    q6 = omega (arith, h .1 .1 .1 .1 .0);
+    q7 = omega (arith, h .1 .1 .1 .1 .1 .0);
+    q8 = omega (arith, h .1 .1 .1 .1 .1 .1 .0);
+    q9 = omega (arith, h .1 .1 .1 .1 .1 .1 .1 .0);
+    q10 = record { form = h .1 .1 .1 .1 .1 .1 .1 .1 .0 .0 };
+  },
+  λ s. (
+    omega (arith, s .q2),
+    (
+      omega (arith, s .q3),
+      (omega (arith, s .q4), (omega (arith, s .q5), (omega (arith, s .q6), (omega (arith, s .q7), (omega (arith, s .q8), (omega (arith, s .q9), ((s .q10 .form, tt), tt))))))),
+    ),
+  ),
 )
 
-pub each-of-both : (Ps Qs : List (Type 0)) → Each (Ps ++ Qs) ↔ (Each Ps × Each Qs)
-each-of-both [] Qs = (λ h. (tt, h), λ h. h .1)
-each-of-both (P ∷ Ps) Qs =
-    let r = each-of-both Ps Qs in
+pub so-of-both : (ls ms : List (List Lined)) → AllSo (ls ++ ms) ↔ (AllSo ls × AllSo ms)
+so-of-both [] ms = (λ h. (tt, h), λ h. h .1)
+so-of-both (l ∷ ls) ms =
+    let r = so-of-both ls ms in
     (λ h. ((h .0, r .0 (h .1) .0), r .0 (h .1) .1), λ h. (h .0 .0, r .1 (h .0 .1, h .1)))
+
+-- and those of question 11 with them
+pub so-is-allowed : (q : Sheet) → AllSo (lines-of q) ↔ (Sound q × Question11 1 q)
+unfolding lines-of lines11
+so-is-allowed q =
+    let both = so-of-both (lines-on-numbers q) (lines11 q ∷ []) in
+    let sound = so-is-sound q in
+    (λ h. let b = both .0 h in (sound .0 (b .0), record { allowed = b .1 .0 .0 }), λ h. both .1 (sound .1 (h .0), ((h .1 .allowed, tt), tt)))
 
 -- no question up to the tenth refuses a sheet exactly where it meets them
 pub met-is-sound : (q : Sheet) → (firstRefusal q ≡ Met) ↔ Sound q
 unfolding firstRefusal
-met-is-sound q = (
-  λ e. each-is-sound q .0 (each-when-met (onNumbers q) (facts-on-numbers q) (on-numbers-tied q) e),
-  λ s. met-when-each (onNumbers q) (facts-on-numbers q) (on-numbers-tied q) (each-is-sound q .1 s),
-)
+met-is-sound q =
+    let met = met-when-so 0 2 (onNumbers q) (lines-on-numbers q) (on-numbers-told q 0) in
+    let sound = so-is-sound q in
+    (λ e. sound .0 (met .0 e), λ s. met .1 (sound .1 s))
 
 -- and one refuses it exactly where there is a reason: the questions before are met, its own is not, its line is the first
-pub refused-with-reason : (q : Sheet) (a : Answer) → Found-as (firstRefusal q) a ↔ Reason (lines-on-numbers q) (facts-on-numbers q) 0 a
+pub refused-with-reason : (q : Sheet) (a : Answer) → Found-as (firstRefusal q) a ↔ Reason (lines-on-numbers q) 0 a
 unfolding firstRefusal
-refused-with-reason q a = found-with-reason 0 (onNumbers q) (lines-on-numbers q) (facts-on-numbers q) (on-numbers-tied q) (on-numbers-told q 0) a
+refused-with-reason q a = found-with-reason 0 (onNumbers q) (lines-on-numbers q) (on-numbers-told q 0) a
 
 pub judged-refused : (f : Found) (p : Printed) (r : Refusal) → (judged f p ≡ refused r) ↔ (f ≡ Refused r)
 unfolding judged
@@ -58,31 +83,27 @@ pub accepted-is-met : (q : Sheet) (p : Printed) → (verdict q ≡ accepted p) �
 unfolding verdict
 accepted-is-met q p =
     let j = judged-accepted (firstIn (questions q)) (figures 1 q) p in
-    let t = questions-tied q in
-    let split = each-of-both (facts-on-numbers q) (Question11 1 q ∷ []) in (
-      λ e.
-          let h = split .0 (each-when-met (questions q) (facts q) t (j .0 e .0)) in
-          (each-is-sound q .0 (h .0), h .1 .0, j .0 e .1),
-      λ h. j .1 (met-when-each (questions q) (facts q) t (split .1 (each-is-sound q .1 (h .0), (h .1, tt))), h .2),
+    let met = met-when-so 0 2 (questions q) (lines-of q) (questions-told q 0) in
+    let allowed = so-is-allowed q in (
+      λ e. let h = allowed .0 (met .0 (j .0 e .0)) in (h .0, h .1, j .0 e .1),
+      λ h. j .1 (met .1 (allowed .1 (h .0, h .1)), h .2),
     )
 
 -- and refused exactly where there is a reason
-pub verdict-with-reason : (q : Sheet) (a : Answer) → Judged-as (verdict q) a ↔ Reason (lines-of q) (facts q) 0 a
+pub verdict-with-reason : (q : Sheet) (a : Answer) → Judged-as (verdict q) a ↔ Reason (lines-of q) 0 a
 unfolding verdict
 verdict-with-reason q a =
     let j = judged-refused (firstIn (questions q)) (figures 1 q) in
-    let r = found-with-reason 0 (questions q) (lines-of q) (facts q) (questions-tied q) (questions-told q 0) a in (
+    let r = found-with-reason 0 (questions q) (lines-of q) (questions-told q 0) a in (
       λ v. r .0 (record { refusal = v .refusal; found = j (v .refusal) .0 (v .judged); tells = v .tells }),
       λ h. let f = r .1 h in record { refusal = f .refusal; judged = j (f .refusal) .1 (f .found); tells = f .tells },
     )
 
 -- with 11 exactly where it meets questions 2 to 10, and the area's upper end passes the allowance
-pub beyond-the-allowance : (q : Sheet) → (verdict q ≡ refused Allowance) ↔ (Sound q × (Question11 1 q → ⊥))
-unfolding verdict questions onNumbers question11
+pub beyond-the-allowance : (q : Sheet) → Judged-as (verdict q) (answer 11 12 0) ↔ (Sound q × (Question11 1 q → ⊥))
+unfolding lines-of lines-on-numbers lines11
 beyond-the-allowance q =
-    let j = judged-refused (firstIn (questions q)) (figures 1 q) Allowance in (
-      λ e.
-          let h = verdict-with-reason q (told Allowance) .0 (record { refusal = Allowance; judged = e; tells = refl }) in
-          (each-is-sound q .0 (h .before), h .unmet),
-      λ h. j .1 (refused-when-at 9 (questions q) (facts q) Allowance (questions-tied q) (each-is-sound q .1 (h .0)) (inl (λ a. h .1 (tied11 q .0 (a, tt)), refl))),
+    let w = verdict-with-reason q (answer 11 12 0) in (
+      λ v. let h = w .0 v in (so-is-sound q .0 (h .before), λ m. ⊎-elim (λ n. n .0 (m .allowed)) (λ n. n .1) (h .first)),
+      λ h. w .1 (record { on-numbers = omega arith; before = so-is-sound q .1 (h .0); first = inl (λ a. h .1 (record { allowed = a }), refl); size = refl }),
     )

@@ -1,4 +1,4 @@
--- A sheet, its figures, and the lines that show them. (Document 01, "Sheet and certificate".)
+-- A sheet, its figures, and the lines that show them. (docs/WORKING.md, 14.)
 use Prim.Native.Nat.{ℕ}
 use mathlib.Core.List.{List, [], _∷_, _++_, map}
 use lib.IntN.{ℤ, pos, natAbs}
@@ -6,7 +6,29 @@ use lib.ListN.{getD}
 use Rattle.section.specs.declared.Sheet.{Sheet}
 use Rattle.section.specs.Figures.{Printed, figures}
 use Rattle.text.specs.Lines.{linesText}
-use Rattle.certificate.specs.Questions.{sheetOf, values}
+
+-- a sheet of twelve numbers, in the order of the lines
+abbrev pub sheetOf : ℕ → ℕ → ℕ → ℕ → ℕ → ℕ → ℕ → ℕ → ℕ → ℕ → ℕ → ℕ → Sheet
+sheetOf form h b1 b2 c r tnom t fyb gm0 rounds allow =
+    record {
+      form = form;
+      h = h;
+      b1 = b1;
+      b2 = b2;
+      c = c;
+      r = r;
+      tnom = record { 0 = tnom };
+      t = record { 0 = t };
+      fyb = fyb;
+      gm0 = gm0;
+      rounds = rounds;
+      allow = allow;
+    }
+
+-- its numbers, in the order of the lines
+unfoldable pub values : Sheet → List ℕ
+values q =
+    q .form ∷ q .h ∷ q .b1 ∷ q .b2 ∷ q .c ∷ q .r ∷ q .tnom .0 ∷ q .t .0 ∷ q .fyb ∷ q .gm0 ∷ q .rounds ∷ q .allow ∷ []
 
 -- the values of a sheet's lines, and of those behind them
 unfoldable pub sheetValues : Sheet → List ℤ

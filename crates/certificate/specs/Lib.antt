@@ -1,7 +1,8 @@
 pub mod Refusals
+pub mod Answers
+pub mod Certificates
 pub mod Questions
 pub mod Reasons
-pub mod Certificates
 pub mod Outcome
 pub mod Promises
 pub mod MarkedCases

@@ -13,7 +13,8 @@ use Rattle.text.specs.Lines.{longest}
 use Rattle.text.specs.Reading.{Reading, values, badLine, readLines}
 use Rattle.certificate.specs.Refusals.{answer}
 use Rattle.certificate.specs.Certificates.{figuresShown}
-use Rattle.certificate.specs.Outcome.{Outcome, refused, written, outcome, answerOf}
+use Rattle.certificate.specs.Outcome.{outcome}
+use Rattle.certificate.specs.Answers.{Outcome, refused, written, answerOf}
 
 -- what is worked, and the value that the paper expects, or the two numbers that it is to lie between; or two such in one case
 infix 3 _gives_
@@ -29,6 +30,11 @@ abbrev pub Says : Case → Type 0
 Says (worked gives expected) = worked ≡ expected
 Says (worked lies-between least and most) = (least ≤ℤ worked) × (worked ≤ℤ most)
 Says (a also b) = Says a × Says b
+
+-- each case holds
+abbrev pub Each : List Case → Type 0
+Each [] = Unit
+Each (c ∷ cs) = Says c × Each cs
 
 -- Sheet A
 unfoldable pub sheetA : List ℕ

@@ -1,4 +1,4 @@
--- What writing and checking do, for any bytes, any twelve numbers and any room. (Document 01, "The questions, in this order".)
+-- What writing and checking do, for any bytes, any twelve numbers and any room. (docs/WORKING.md, 15.)
 use Prim.Native.Nat.{ℕ, _+_}
 use mathlib.Core.List.{List, [], _∷_, _++_}
 use lib.ListN.{length, drop}
@@ -7,14 +7,12 @@ use Rattle.section.specs.declared.Sheet.{Sheet}
 use Rattle.section.specs.Claims.{_≤?_, _is_}
 use Rattle.section.specs.Figures.{figures}
 use Rattle.text.specs.Keys.{sheetLines, certificateLines}
-use Rattle.text.specs.Lines.{over}
 use Rattle.text.specs.Reading.{Reading, values, badLine, readLines}
-use Rattle.certificate.specs.declared.Answer.{Answer}
 use Rattle.certificate.specs.declared.Refusal.{Refusal}
 use Rattle.certificate.specs.declared.Refusal.the-variants.{Spelling, Room, Figure}
 use Rattle.certificate.specs.declared.Found.{Found}
 use Rattle.certificate.specs.declared.Found.the-variants.{Refused, Met}
-use Rattle.certificate.specs.Refusals.{answer, told}
+use Rattle.certificate.specs.Answers.{Outcome, refused, written}
 use Rattle.certificate.specs.Questions.{Asked, _else_, questions, firstOf, firstIn}
 use Rattle.certificate.specs.Certificates.{figureValues, certificateOf, sheetShown}
 
@@ -43,11 +41,7 @@ writing room q = questions q ++ (question12 room q ∷ [])
 unfoldable pub checking : List ℤ → Sheet → List (List Asked)
 checking vs q = questions q ++ ([] ∷ question13 vs q ∷ [])
 
--- what writing does: it refuses, or this text is written
-pub data Outcome : Type 0 where
-  refused : Refusal → Outcome
-  written : List ℕ → Outcome
-
+-- what is written where no question refuses
 unfoldable pub settled : Found → List ℕ → Outcome
 settled (Refused r) t = refused r
 settled Met t = written t
@@ -69,22 +63,6 @@ outcomeRead (values vs) room = outcomeOf (sheetShown vs) room
 unfoldable pub outcome : List ℕ → ℕ → Outcome
 outcome s room = outcomeRead (readLines sheetLines s) room
 
--- what is answered: a written certificate's length; and the buffer afterwards, which a refusal leaves as it was
-unfoldable pub answerOf : Outcome → Answer
-answerOf (refused r) = told r
-answerOf (written t) = answer 0 0 (length t)
-
-unfoldable pub bufferAfter : Outcome → List ℕ → List ℕ
-bufferAfter (refused r) b = b
-bufferAfter (written t) b = over t b
-
--- the same for a call that is lent the buffer b, o being what happens in each room
-abbrev pub answerIn : (ℕ → Outcome) → List ℕ → Answer
-answerIn o b = answerOf (o (length b))
-
-abbrev pub bufferIn : (ℕ → Outcome) → List ℕ → List ℕ
-bufferIn o b = bufferAfter (o (length b)) b
-
 -- what checking finds of a certificate's bytes
 unfoldable pub checkedRead : Reading → Found
 checkedRead (badLine l) = Refused (Spelling l)
@@ -92,8 +70,3 @@ checkedRead (values vs) = firstIn (checking vs (sheetShown vs))
 
 unfoldable pub checked : List ℕ → Found
 checked c = checkedRead (readLines certificateLines c)
-
--- what is answered: a passed certificate's length
-unfoldable pub checkAnswer : List ℕ → Found → Answer
-checkAnswer c (Refused r) = told r
-checkAnswer c Met = answer 0 0 (length c)

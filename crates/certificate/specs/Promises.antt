@@ -3,7 +3,7 @@ use Prim.Native.Nat.{ℕ, _≤_}
 use mathlib.Core.List.{List, [], _∷_, _++_}
 use mathlib.Core.Path.{_≡_}
 use lib.IntN.{ℤ, pos}
-use lib.ListN.{length, drop}
+use lib.ListN.{length}
 use Rattle.section.specs.declared.Sheet.{Sheet}
 use Rattle.section.specs.Claims.{_≤?_, _is_}
 use Rattle.section.specs.Working.{worked}
@@ -13,28 +13,14 @@ use Rattle.text.specs.Lines.{linesFrom, linesText, TextOf, FirstBad}
 use Rattle.text.specs.Reading.{values, readLines}
 use Rattle.certificate.specs.declared.Answer.{Answer}
 use Rattle.certificate.specs.Refusals.{answer}
-use Rattle.certificate.specs.Reasons.{Each, facts, Lined, _at-line_, lines-of, Reason}
+use Rattle.certificate.specs.Reasons.{Lined, _at-line_, lines-of, AllSo, Reason}
 use Rattle.certificate.specs.Certificates.{sheetValues, figureValues, certificateOf, valueAt, sheetShown, figuresShown}
-use Rattle.certificate.specs.Outcome.{written, outcome, outcomeOf}
+use Rattle.certificate.specs.Outcome.{outcome, outcomeOf}
+use Rattle.certificate.specs.Answers.{written}
 
 -- Are all lines there, spelt as the paper says, with nothing behind the last? They show the sheet q.
 pub record Question1 (s : List ℕ) (q : Sheet) : Type 0 where
   pub text : TextOf sheetLines (sheetValues q) s
-
--- Does the certificate fit the buffer?
-pub record Question12 (room : ℕ) (q : Sheet) : Type 0 where
-  pub fits : length (certificateOf q) ≤ room
-
--- Do lines 13 to 18, of those with the values vs, agree with the working?
-pub record Question13 (vs : List ℤ) (q : Sheet) : Type 0 where
-  pub agree : drop sheetLines vs ≡ figureValues (figures 1 q)
-
--- the facts that writing asks for, and those that checking asks for
-abbrev pub facts-of-writing : ℕ → Sheet → List (Type 0)
-facts-of-writing room q = facts q ++ (Question12 room q ∷ [])
-
-abbrev pub facts-of-checking : List ℤ → Sheet → List (Type 0)
-facts-of-checking vs q = facts q ++ (Unit ∷ Question13 vs q ∷ [])
 
 -- Writing: does the certificate fit the buffer? No: 12, line 0.
 unfoldable pub lines12 : ℕ → Sheet → List Lined
@@ -63,7 +49,7 @@ lines-of-checking vs q = lines-of q ++ ([] ∷ lines13 vs q ∷ [])
 pub record Written (s : List ℕ) (room : ℕ) (t : List ℕ) : Type 0 where
   pub sheet : Sheet
   pub question1 : Question1 s sheet
-  pub questions : Each (facts-of-writing room sheet)
+  pub questions : AllSo (lines-of-writing room sheet)
   pub text : t ≡ certificateOf sheet
 
 -- of n lines, one is the first that is bad, and a names it: 1, first bad or missing line
@@ -74,7 +60,7 @@ pub record Misspelt (n : ℕ) (s : List ℕ) (a : Answer) : Type 0 where
 
 -- why numbers are refused with a
 abbrev pub NumbersUnmet : Sheet → ℕ → Answer → Type 0
-NumbersUnmet q room a = Reason (lines-of-writing room q) (facts-of-writing room q) (length (certificateOf q)) a
+NumbersUnmet q room a = Reason (lines-of-writing room q) (length (certificateOf q)) a
 
 -- s shows a sheet that is refused, with the reason
 pub record Unmet (s : List ℕ) (room : ℕ) (a : Answer) : Type 0 where
@@ -86,7 +72,7 @@ pub record Unmet (s : List ℕ) (room : ℕ) (a : Answer) : Type 0 where
 pub record Unlike (c : List ℕ) (a : Answer) : Type 0 where
   pub shown : List ℤ
   pub text : TextOf certificateLines shown c
-  pub reason : Reason (lines-of-checking shown (sheetShown shown)) (facts-of-checking shown (sheetShown shown)) 0 a
+  pub reason : Reason (lines-of-checking shown (sheetShown shown)) 0 a
 
 -- some sheet, given room, is written as c
 pub record Issued (c : List ℕ) : Type 0 where
@@ -117,13 +103,15 @@ pub record WrittenAndHeld (q : Sheet) (s : List ℕ) (writes : List ℕ → Type
 pub record HeldForItsSheet (s : List ℕ) (room : ℕ) (c : List ℕ) : Type 0 where
   pub sheet : Sheet
   pub question1 : Question1 s sheet
-  pub questions : Each (facts-of-writing room sheet)
+  pub questions : AllSo (lines-of-writing room sheet)
   pub holds : HoldsFinerWorkings sheet s c
 
 -- and of all: for every sheet that meets the questions of writing, as text or as numbers, in any room, a certificate is written and holds what it
 -- shows; and whatever is written is so for such a sheet
 pub record FinerWorkingsHeld : Type 0 where
-  pub of-text : (s : List ℕ) (q : Sheet) (room : ℕ) → Question1 s q → Each (facts-of-writing room q) → WrittenAndHeld q s (λ c. outcome s room ≡ written c)
-  pub of-numbers : (q : Sheet) (room : ℕ) → Each (facts-of-writing room q) → WrittenAndHeld q (own-lines q) (λ c. outcomeOf q room ≡ written c)
+  pub of-text : (s : List ℕ) (q : Sheet) (room : ℕ) → Question1 s q → AllSo (lines-of-writing room q)
+      → WrittenAndHeld q s (λ c. outcome s room ≡ written c)
+  pub of-numbers : (q : Sheet) (room : ℕ) → AllSo (lines-of-writing room q) → WrittenAndHeld q (own-lines q) (λ c. outcomeOf q room ≡ written c)
   pub text-written : (s : List ℕ) (room : ℕ) (c : List ℕ) → outcome s room ≡ written c → HeldForItsSheet s room c
-  pub numbers-written : (q : Sheet) (room : ℕ) (c : List ℕ) → outcomeOf q room ≡ written c → Each (facts-of-writing room q) × HoldsFinerWorkings q (own-lines q) c
+  pub numbers-written : (q : Sheet) (room : ℕ) (c : List ℕ) → outcomeOf q room ≡ written c
+      → AllSo (lines-of-writing room q) × HoldsFinerWorkings q (own-lines q) c

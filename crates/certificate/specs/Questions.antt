@@ -1,4 +1,4 @@
--- The questions on twelve numbers, in order, and what they give. (Document 01, "The questions, in this order".)
+-- The questions on twelve numbers, in order, and what they give. (docs/WORKING.md, 15.)
 use Prim.Native.Nat.{ℕ, _+_, _-_}
 use mathlib.Core.Bool.{cond}
 use mathlib.Core.List.{List, [], _∷_, _++_}
@@ -6,62 +6,34 @@ use mathlib.Core.Path.{_≡_}
 use lib.ListN.{drop}
 use Rattle.section.specs.declared.Sheet.{Sheet}
 use Rattle.section.specs.declared.Span.{Span}
-use Rattle.section.specs.Claims.{Claim, _≤?_, _and_, _or_, test}
-use Rattle.section.specs.Sheets.{span-of, core-within, width, lip-length, depth, lip-long, lip-short, radius-core, radius-flange, mid-line-lip, form-z, lips-apart}
+use Rattle.section.specs.Claims.{Claim, _and_, _or_, test}
+use Rattle.section.specs.Sheets.{span-of, inside, lip, core-within, width, lip-length, depth, radius-core, radius-flange, mid-line-lip, form-z, lips-apart}
 use Rattle.section.specs.Figures.{Printed, figures, allowance}
 use Rattle.section.specs.Forms.{figuresOf}
 use Rattle.certificate.specs.declared.Refusal.{Refusal}
 use Rattle.certificate.specs.declared.Refusal.the-variants.{Range, Thickness, FlangeWidth, LipLength, Depth, LipRatio, Radius, MidLineRatio, Form, Allowance}
 use Rattle.certificate.specs.declared.Found.{Found}
 use Rattle.certificate.specs.declared.Found.the-variants.{Refused, Met}
+use Rattle.certificate.specs.Certificates.{values}
 use Rattle.certificate.specs.declared.Verdict.{Verdict}
 use Rattle.certificate.specs.declared.Verdict.the-variants.{Refused as Turned, Accepted}
-
--- a sheet of twelve numbers, in the order of the lines
-abbrev pub sheetOf : ℕ → ℕ → ℕ → ℕ → ℕ → ℕ → ℕ → ℕ → ℕ → ℕ → ℕ → ℕ → Sheet
-sheetOf form h b1 b2 c r tnom t fyb gm0 rounds allow =
-    record {
-      form = form;
-      h = h;
-      b1 = b1;
-      b2 = b2;
-      c = c;
-      r = r;
-      tnom = record { 0 = tnom };
-      t = record { 0 = t };
-      fyb = fyb;
-      gm0 = gm0;
-      rounds = rounds;
-      allow = allow;
-    }
 
 -- what is asked, and the refusal where it is not so
 infix 30 _else_
 pub data Asked : Type 0 where
   _else_ : Claim → Refusal → Asked
 
--- the ranges, and the values, in the order of the lines
+-- the ranges in the order of the lines
 unfoldable pub ranges : List Span
 ranges =
     span-of .form ∷ span-of .h ∷ span-of .b1 ∷ span-of .b2 ∷ span-of .c ∷ span-of .r
     ∷ span-of .tnom ∷ span-of .t ∷ span-of .fyb ∷ span-of .gm0 ∷ span-of .rounds ∷ span-of .allow ∷ []
-
-unfoldable pub values : Sheet → List ℕ
-values q =
-    q .form ∷ q .h ∷ q .b1 ∷ q .b2 ∷ q .c ∷ q .r ∷ q .tnom .0 ∷ q .t .0 ∷ q .fyb ∷ q .gm0 ∷ q .rounds ∷ q .allow ∷ []
-
-abbrev pub inside : Span → ℕ → Claim
-inside s v = s .least ≤? v and v ≤? s .most
 
 -- each value in its range, the first of them on this line
 unfoldable pub ranged : ℕ → List Span → List ℕ → List Asked
 ranged line [] vs = []
 ranged line (s ∷ ss) [] = []
 ranged line (s ∷ ss) (v ∷ vs) = (inside s v else Range line) ∷ ranged (line + 1) ss vs
-
--- a lip beside its flange, on outer lengths
-abbrev pub lip : ℕ → ℕ → Claim
-lip b c = lip-long b c and lip-short b c
 
 -- Is every value in range?
 unfoldable pub question2 : Sheet → List Asked

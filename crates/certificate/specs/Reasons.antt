@@ -1,4 +1,4 @@
--- What it says of a sheet that it meets the questions, or is refused by one. (Document 01, "The questions, in this order".)
+-- What the questions ask, with the lines that they name, and what it says that a sheet meets them or is refused by one. (docs/WORKING.md, 15.)
 use Prim.Native.Nat.{ℕ, _-_, _≤_}
 use mathlib.Core.Bool.{cond}
 use mathlib.Core.List.{List, [], _∷_, _++_}
@@ -9,27 +9,14 @@ use lib.ListN.{take, getD}
 use Rattle.section.specs.declared.Sheet.{Sheet}
 use Rattle.section.specs.Claims.{Claim, _and_, _or_, Holds}
 use Rattle.section.specs.Sheets.{span-of, core-within, width, lip-length, depth, radius-core, radius-flange, mid-line-lip, form-z, lips-apart}
-use Rattle.section.specs.Sheets.{Question2, Question3, Question4, Question5, Question6, Question7, Question8, Question9, Question10}
-use Rattle.section.specs.Figures.{Question11, allowance}
+use Rattle.section.specs.Figures.{allowance}
 use Rattle.certificate.specs.declared.Answer.{Answer}
 use Rattle.certificate.specs.declared.Refusal.{Refusal}
 use Rattle.certificate.specs.declared.Found.{Found}
 use Rattle.certificate.specs.declared.Found.the-variants.{Refused}
 use Rattle.certificate.specs.Refusals.{told}
-use Rattle.certificate.specs.Questions.{inside, lip, Judged, refused}
-
--- questions 2 to 10, and 2 to 11, as facts of a sheet
-abbrev pub facts-on-numbers : Sheet → List (Type 0)
-facts-on-numbers q =
-    Question2 q ∷ Question3 q ∷ Question4 q ∷ Question5 q ∷ Question6 q ∷ Question7 q ∷ Question8 q ∷ Question9 q ∷ Question10 q ∷ []
-
-abbrev pub facts : Sheet → List (Type 0)
-facts q = facts-on-numbers q ++ (Question11 1 q ∷ [])
-
--- each of these is a fact
-abbrev pub Each : List (Type 0) → Type 0
-Each [] = Unit
-Each (P ∷ Ps) = P × Each Ps
+use Rattle.certificate.specs.Questions.{Judged, refused}
+use Rattle.section.specs.Sheets.{inside, lip}
 
 -- a claim, and the line that is told where it is not so
 infix 30 _at-line_
@@ -79,6 +66,15 @@ lines11 q = (allowance 1 q at-line 12) ∷ []
 unfoldable pub lines-of : Sheet → List (List Lined)
 lines-of q = lines-on-numbers q ++ (lines11 q ∷ [])
 
+-- all that a question claims is so, and all that several claim
+abbrev pub So : List Lined → Type 0
+So [] = Unit
+So ((a at-line l) ∷ cs) = Holds a × So cs
+
+abbrev pub AllSo : List (List Lined) → Type 0
+AllSo [] = Unit
+AllSo (cs ∷ qs) = So cs × AllSo qs
+
 -- the line stands at the first claim that is not so
 abbrev pub FirstNo : List Lined → ℕ → Type 0
 FirstNo [] line = ⊥
@@ -92,13 +88,12 @@ place a = a .refusal - 2
 abbrev pub length-told : ℕ → ℕ → ℕ
 length-told needed number = cond (eqb number 12) needed 0
 
--- Why a is answered to questions that ask for the facts Ps, by the claims of ls: those before the one that bears its number are met, that one is
--- not, its line stands at the first "no" within it, and the length is 0 but for the one needed.
-pub record Reason (ls : List (List Lined)) (Ps : List (Type 0)) (needed : ℕ) (a : Answer) : Type 0 where
+-- Why a is answered to the questions qs, the first of which is the paper's second: those before the one that bears its number are met, its line
+-- stands at the first "no" within that one, and the length is 0 but for the one needed.
+pub record Reason (qs : List (List Lined)) (needed : ℕ) (a : Answer) : Type 0 where
   pub on-numbers : 2 ≤ a .refusal
-  pub before : Each (take (place a) Ps)
-  pub unmet : getD Ps (place a) Unit → ⊥
-  pub first : FirstNo (getD ls (place a) []) (a .line)
+  pub before : AllSo (take (place a) qs)
+  pub first : FirstNo (getD qs (place a) []) (a .line)
   pub size : a .length ≡ length-told needed (a .refusal)
 
 -- questions find a refusal that tells a

@@ -1,4 +1,4 @@
--- What each refusal tells: the paper's number, line and length. (Document 01, "The questions, in this order".)
+-- What each refusal tells: the paper's number, line and length. (docs/WORKING.md, 15.)
 use Prim.Native.Nat.{ℕ}
 use Rattle.certificate.specs.declared.Answer.{Answer}
 use Rattle.certificate.specs.declared.Refusal.{Refusal}

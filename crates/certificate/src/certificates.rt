@@ -1,4 +1,4 @@
-// Writing and checking certificates. (Document 01, "Sheet and certificate".)
+// Writing and checking certificates. (docs/WORKING.md, 14.)
 use crate::Answer;
 use crate::Found;
 use crate::Refusal;
@@ -19,7 +19,7 @@ ghost use mathlib.Core.Path.{_≡_};
 ghost use mathlib.Core.List.{map};
 ghost use lib.ListN.{length, take, drop};
 ghost use lib.IntN.{pos};
-ghost use Rattle.pair.specs.SignedPairs.{integer, plain};
+ghost use Rattle.pair.specs.Forms.{integer, plain};
 ghost use Rattle.section.specs.Claims.{_is_, test};
 ghost use Rattle.section.specs.Figures.{figures};
 ghost use Rattle.section.specs.Forms.{figuresOf};
@@ -27,9 +27,11 @@ ghost use Rattle.text.specs.Forms.{integers};
 ghost use Rattle.text.specs.Keys.{sheetLines, certificateLines};
 ghost use Rattle.text.specs.Lines.{linesText, longest};
 ghost use Rattle.text.specs.Reading.{values};
-ghost use Rattle.certificate.specs.Questions.{sheetOf, firstOf};
+ghost use Rattle.certificate.specs.Questions.{firstOf};
+ghost use Rattle.certificate.specs.Certificates.{sheetOf};
 ghost use Rattle.certificate.specs.Certificates.{certificateValues, sheetShown};
-ghost use Rattle.certificate.specs.Outcome.{agreeing, fitted, outcomeOf, outcome, answerOf, bufferAfter, answerIn, bufferIn, checkedRead, checked, checkAnswer};
+ghost use Rattle.certificate.specs.Outcome.{agreeing, fitted, outcomeOf, outcome, checkedRead, checked};
+ghost use Rattle.certificate.specs.Answers.{answerOf, bufferAfter, answerIn, bufferIn, checkAnswer};
 
 // The value of a line that has no minus.
 fn number(size: u64) -> Integer

@@ -2,8 +2,9 @@
 use crate::Answer;
 use crate::certificates;
 ghost use mathlib.Core.Path.{_≡_};
-ghost use Rattle.certificate.specs.Questions.{sheetOf};
-ghost use Rattle.certificate.specs.Outcome.{outcomeOf, outcome, answerIn, bufferIn, checked, checkAnswer};
+ghost use Rattle.certificate.specs.Certificates.{sheetOf};
+ghost use Rattle.certificate.specs.Outcome.{outcomeOf, outcome, checked};
+ghost use Rattle.certificate.specs.Answers.{answerIn, bufferIn, checkAnswer};
 
 #[no_mangle]
 pub extern "C" fn certificate_write(sheet: &[u8], buffer: &mut [u8]) -> Answer

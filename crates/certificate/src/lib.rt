@@ -1,4 +1,4 @@
-// A sheet's numbers, the questions on them, and what they give. (Document 01.)
+// A sheet's numbers, the questions on them, and what they give. (docs/WORKING.md, 14 and 15.)
 pub mod certificates;
 pub mod exports;
 pub mod questions;
@@ -9,7 +9,7 @@ use section::Figures;
 use section::Nominal;
 use section::Sheet;
 ghost use mathlib.Core.Path.{_≡_};
-ghost use Rattle.certificate.specs.Questions.{sheetOf};
+ghost use Rattle.certificate.specs.Certificates.{sheetOf};
 
 // Why a sheet, or a certificate, is refused: a case for each question, with the line or the
 // length that varies.

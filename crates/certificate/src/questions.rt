@@ -1,5 +1,5 @@
 // The questions on twelve numbers, in the paper's order: the first "no" decides.
-// (Document 01, "The questions, in this order".)
+// (docs/WORKING.md, 15.)
 use crate::Found;
 use crate::Refusal;
 use crate::Verdict;
@@ -9,11 +9,12 @@ use section::sections;
 ghost use mathlib.Core.Path.{_≡_};
 ghost use Prim.Native.Nat.{_≤_};
 ghost use Rattle.section.specs.Claims.{test};
-ghost use Rattle.section.specs.Sheets.{Question2, Sound};
+ghost use Rattle.section.specs.Sound.{Question2, Sound};
 ghost use Rattle.section.specs.Figures.{figures};
-ghost use Rattle.certificate.specs.Questions.{inside, lip, ranges, ranged, question11, from, firstOf, First, firstRefusal, judged, verdict, verdictOf};
+ghost use Rattle.certificate.specs.Questions.{ranges, ranged, question11, from, firstOf, First, firstRefusal, judged, verdict, verdictOf};
+ghost use Rattle.section.specs.Sheets.{inside, lip};
 
-// The ranges of document 01, in the order of the lines.
+// The ranges, in the order of the lines.
 const RANGES: [Span; 12] = [
     Span { least: 0, most: 1 },
     Span {

@@ -1,4 +1,4 @@
-// What a refusal tells. (Document 01, "The questions, in this order".)
+// What a refusal tells. (docs/WORKING.md, 15.)
 use crate::Answer;
 use crate::Refusal;
 ghost use mathlib.Core.Path.{_≡_};

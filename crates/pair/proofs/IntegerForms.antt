@@ -9,7 +9,8 @@ use lib.Dec.{leb, eqb}
 use lib.IntN.{ℤ, pos, negsuc, negℤ, subℕ, natAbs, negℤ-negℤ, negℤ-+ℤ, +ℤ-comm, _+ℤ_, _*ℤ_}
 use Rattle.pair.specs.Rounding.{ceilDiv}
 use Rattle.pair.specs.Integers.{above, below, _≤ℤ_, lebℤ, least, greatest, floorOver, ceilOver}
-use Rattle.pair.specs.SignedPairs.{integer, plain, meaning, reach}
+use Rattle.pair.specs.SignedPairs.{reach}
+use Rattle.pair.specs.Forms.{integer, plain, meaning}
 use Rattle.pair.specs.declared.signed.Integer.{Integer}
 use Rattle.pair.specs.declared.signed.Signed.{Signed}
 use Rattle.pair.proofs.Tests.{by-test}

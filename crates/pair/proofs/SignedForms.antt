@@ -7,7 +7,8 @@ use native.Mathlib.Omega.{arith}
 use lib.IntN.{ℤ, pos, _*ℤ_}
 use Rattle.pair.specs.Rounding.{ceilDiv}
 use Rattle.pair.specs.Integers.{_≤ℤ_, least, greatest, floorOver, ceilOver}
-use Rattle.pair.specs.SignedPairs.{SignedPair, _upto_, integer, meaning, plainPair, signed, leastProduct, greatestProduct, signedTimes, signedOver, reach}
+use Rattle.pair.specs.SignedPairs.{SignedPair, _upto_, signed, leastProduct, greatestProduct, signedTimes, signedOver, reach}
+use Rattle.pair.specs.Forms.{integer, meaning, plainPair}
 use Rattle.pair.specs.declared.Pair.{Pair}
 use Rattle.pair.specs.declared.signed.Integer.{Integer}
 use Rattle.pair.specs.declared.signed.Signed.{Signed}

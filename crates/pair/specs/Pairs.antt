@@ -1,4 +1,4 @@
--- A value is a pair of whole numbers, a lower and an upper end, in units of 1/s, s being the scale. (Document 01, "Pairs and the scale".)
+-- A value is a pair of whole numbers, a lower and an upper end, in units of 1/s, s being the scale. (docs/WORKING.md, 3.)
 -- Each operation uses the ends that make the result smallest for the lower end and largest for the upper,
 -- then rounds the lower down and the upper up to a whole unit.
 use Prim.Native.Nat.{ℕ, _+_, _-_, _*_, _/_}

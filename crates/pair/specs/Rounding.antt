@@ -1,4 +1,4 @@
--- Rounding to a whole unit, down and up: quotients and roots. (Document 01, "Pairs and the scale".)
+-- Rounding to a whole unit, down and up: quotients and roots. (docs/WORKING.md, 3.)
 use Prim.Native.Nat.{ℕ, zero, suc, _+_, _-_, _*_, _/_, _^_}
 use mathlib.Core.Bool.{cond}
 use lib.Dec.{leb}

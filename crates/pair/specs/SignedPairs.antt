@@ -1,12 +1,9 @@
 -- Pairs whose ends are integers, in units of 1/s: for differences that may lie below zero.
 -- The same rule as in Pairs: the ends that make the result smallest and largest, then rounded toward minus and plus infinity.
-use Prim.Native.Nat.{ℕ, suc, max}
-use mathlib.Core.Bool.{true, false, cond}
-use lib.IntN.{ℤ, pos, negsuc, negℤ, subℕ, natAbs, _+ℤ_, _-ℤ_, _*ℤ_}
+use Prim.Native.Nat.{ℕ, max}
+use lib.IntN.{ℤ, pos, subℕ, natAbs, _+ℤ_, _-ℤ_, _*ℤ_}
 use Rattle.pair.specs.Integers.{least, greatest, floorOver, ceilOver}
 use Rattle.pair.specs.declared.Pair.{Pair}
-use Rattle.pair.specs.declared.signed.Integer.{Integer}
-use Rattle.pair.specs.declared.signed.Signed.{Signed}
 
 pub record SignedPair : Type 0 where
   pub lo : ℤ
@@ -15,22 +12,6 @@ pub record SignedPair : Type 0 where
 infix 5 _upto_
 abbrev pub _upto_ : ℤ → ℤ → SignedPair
 a upto b = record { lo = a; hi = b }
-
--- the integer that the code's form stands for: its size, below zero or not
-unfoldable pub integer : Integer → ℤ
-integer z = cond (z .below) (negℤ (pos (z .size))) (pos (z .size))
-
--- the signed pair that the code's form stands for
-unfoldable pub meaning : Signed → SignedPair
-meaning a = integer (a .lo) upto integer (a .hi)
-
--- the one form in which the code returns an integer, and a signed pair: zero is not below zero
-unfoldable pub plain : ℤ → Integer
-plain (pos n) = record { below = false; size = n }
-plain (negsuc n) = record { below = true; size = suc n }
-
-unfoldable pub plainPair : SignedPair → Signed
-plainPair a = record { lo = plain (a .lo); hi = plain (a .hi) }
 
 -- a pair, none of which is below zero
 unfoldable pub signed : Pair → SignedPair

@@ -1,5 +1,5 @@
 // Values as pairs of whole numbers, a lower and an upper end, in units of 1/s, s being the scale.
-// (Document 01, "Pairs and the scale".)
+// (docs/WORKING.md, 3.)
 mod guesses;
 pub mod roots;
 pub mod signed;

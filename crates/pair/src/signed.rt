@@ -1,5 +1,5 @@
 // Integers and pairs of them, for what may lie below zero. A size may need all 64 bits, so an
-// integer is its size and whether it is below zero; `integer` and `meaning` of specs/SignedPairs
+// integer is its size and whether it is below zero; `integer` and `meaning` of specs/Forms
 // say what stands for what. An operand may be a zero below zero; what is returned is the one form
 // that `plain` and `plainPair` name, in which zero is not below zero.
 use crate::Pair;
@@ -10,7 +10,8 @@ ghost use Prim.Native.Nat.{_+_, _*_, _^_, _<_};
 ghost use lib.IntN.{pos, subℕ, negℤ, _+ℤ_, _*ℤ_};
 ghost use Rattle.pair.specs.Rounding.{ceilDiv};
 ghost use Rattle.pair.specs.Integers.{lebℤ, least, greatest, floorOver, ceilOver};
-ghost use Rattle.pair.specs.SignedPairs.{integer, plain, meaning, plainPair, signed, difference, signedPlus, signedMinus, signedTimes, signedOver, coarser};
+ghost use Rattle.pair.specs.SignedPairs.{signed, difference, signedPlus, signedMinus, signedTimes, signedOver, coarser};
+ghost use Rattle.pair.specs.Forms.{integer, plain, meaning, plainPair};
 ghost use Rattle.pair.specs.Fits.{signedPlusFits, signedTimesFits, signedOverFits};
 
 pub struct Integer {

@@ -1,6 +1,7 @@
 -- C's forms as those of crate pair, and what they stand for: an integer, and a signed pair.
 use lib.IntN.{ℤ}
-use Rattle.pair.specs.SignedPairs.{SignedPair, integer, meaning}
+use Rattle.pair.specs.SignedPairs.{SignedPair}
+use Rattle.pair.specs.Forms.{integer, meaning}
 use Rattle.pair.specs.declared.signed.Integer.{Integer}
 use Rattle.pair.specs.declared.signed.Signed.{Signed}
 use Rattle.pair_c.specs.declared.signed.SignedEnd.{SignedEnd}

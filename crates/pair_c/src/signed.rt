@@ -10,7 +10,8 @@ ghost use lib.IntN.{pos, subℕ, negℤ, _+ℤ_, _*ℤ_};
 ghost use Rattle.pair.specs.Rounding.{ceilDiv};
 ghost use Rattle.pair.specs.Pairs.{_to_};
 ghost use Rattle.pair.specs.Integers.{lebℤ, least, greatest, floorOver, ceilOver};
-ghost use Rattle.pair.specs.SignedPairs.{plain, plainPair, signed, difference, signedPlus, signedMinus, signedTimes, signedOver, coarser};
+ghost use Rattle.pair.specs.SignedPairs.{signed, difference, signedPlus, signedMinus, signedTimes, signedOver, coarser};
+ghost use Rattle.pair.specs.Forms.{plain, plainPair};
 ghost use Rattle.pair.specs.Fits.{signedPlusFits, signedTimesFits, signedOverFits};
 ghost use Rattle.pair_c.specs.Forms.{form, forms, end, ends};
 

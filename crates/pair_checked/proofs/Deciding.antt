@@ -10,7 +10,8 @@ use Rattle.pair.specs.Rounding.{ceilDiv}
 use Rattle.pair.specs.Remainders.{Split}
 use Rattle.pair.specs.Pairs.{times, over, ratio, exact}
 use Rattle.pair.specs.Integers.{lebℤ}
-use Rattle.pair.specs.SignedPairs.{integer, meaning, reach}
+use Rattle.pair.specs.SignedPairs.{reach}
+use Rattle.pair.specs.Forms.{integer, meaning}
 use Rattle.pair.specs.Fits.{word, words, ordered, timesFits, overFits, exactRatio, timesRatioFits, overRatioFits, rootFits, cubeRootFits, signedOrdered, signedTimesFits, signedOverFits}
 use Rattle.pair.specs.declared.Pair.{Pair}
 use Rattle.pair.specs.declared.signed.Signed.{Signed}

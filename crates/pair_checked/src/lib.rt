@@ -9,7 +9,8 @@ ghost use mathlib.Core.Bool.{_&&_};
 ghost use Prim.Native.Nat.{_+_, _*_, _/_, _%_, _<_};
 ghost use lib.Dec.{ltb};
 ghost use Rattle.pair.specs.Rounding.{ceilDiv};
-ghost use Rattle.pair.specs.SignedPairs.{meaning, signed, reach};
+ghost use Rattle.pair.specs.SignedPairs.{signed, reach};
+ghost use Rattle.pair.specs.Forms.{meaning};
 ghost use Rattle.pair.specs.Fits.{word, ratioFits, exactRatio, plusFits, minusFits, timesFits, overFits, timesRatioFits, overRatioFits, rootFits, cubeRootFits, signedPlusFits, signedTimesFits, signedOverFits};
 
 fn both(a: bool, b: bool) -> bool

@@ -15,7 +15,7 @@ use Rattle.certificate.specs.declared.Refusal.the-variants.{Spelling, Range, Th
 use Rattle.certificate.specs.declared.Found.{Found}
 use Rattle.certificate.specs.declared.Found.the-variants.{Refused, Met}
 use Rattle.certificate.specs.Refusals.{answer, told}
-use Rattle.certificate.specs.Outcome.{Outcome, refused, written, answerOf, bufferAfter, checkAnswer}
+use Rattle.certificate.specs.Answers.{Outcome, refused, written, answerOf, bufferAfter, checkAnswer}
 use Rattle.certificate.proofs.OutcomeSteps.{answers-refusal, answers-text, answers-unlike, answers-passed}
 use Rattle.report.specs.Printed.{numberLine, refusalLines, outcomePrints, foundPrints}
 

@@ -10,7 +10,8 @@ use Rattle.certificate.specs.declared.Answer.{Answer}
 use Rattle.certificate.specs.declared.Found.{Found}
 use Rattle.certificate.specs.declared.Found.the-variants.{Refused, Met}
 use Rattle.certificate.specs.Refusals.{told}
-use Rattle.certificate.specs.Outcome.{Outcome, refused, written, outcome, checked}
+use Rattle.certificate.specs.Outcome.{outcome, checked}
+use Rattle.certificate.specs.Answers.{Outcome, refused, written}
 
 -- a line key=number; the key has its '='
 unfoldable pub numberLine : List ℕ → ℕ → List ℕ

@@ -14,7 +14,8 @@ use Rattle.pair.proofs.Laws.{times-comm, fine-positive, inside-ordered, positiv
 use Rattle.pair.proofs.Bounds.{ratio-box, ratio-fits, plus-fits, times-fits, over-fits, over-box, times-ratio-fits, over-ratio-fits, root-fits, box-wider}
 use Rattle.pair.proofs.SignedBounds.{signed-reaches, difference-reaches, signed-plus-reaches, signed-plus-fits}
 use Rattle.section.specs.Working.{S, constant, mm, whole}
-use Rattle.section.specs.Room.{Fine, Slim, Factor}
+use Rattle.section.specs.Parts.{Fine}
+use Rattle.section.specs.Room.{Slim, Factor}
 use Rattle.section.proofs.Ends.{constant-exact, scale, scale-most, word-at}
 
 -- a box inside a wider one

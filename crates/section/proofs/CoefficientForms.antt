@@ -14,7 +14,8 @@ use Rattle.pair.proofs.Laws.{same-scale}
 use Rattle.pair.proofs.Nesting.{inside}
 use Rattle.pair.proofs.Bounds.{minus-box, times-box, cube-root-box, plus-box, minus-fits, cube-root-fits}
 use Rattle.section.specs.Working.{S, units, constant, k-past, k-at, k}
-use Rattle.section.specs.Room.{Fine, PastRoom, LipRatio}
+use Rattle.section.specs.Parts.{Fine}
+use Rattle.section.specs.Room.{PastRoom, LipRatio}
 use Rattle.section.proofs.Ends.{scale, scale-positive, constant-exact}
 use Rattle.section.proofs.Rising.{Rises, rising}
 use Rattle.section.proofs.BoxRooms.{constant-box, ratio-room, plus-room, times-room, by-times}

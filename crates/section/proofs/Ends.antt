@@ -13,7 +13,7 @@ use Rattle.pair.proofs.Laws.{same-scale, ratio-inside}
 use Rattle.pair.proofs.Bounds.{exact-ratio, ratio-box}
 use Rattle.section.specs.Working.{S, constant, units}
 use Rattle.section.specs.Constants.{Exact, ConstantsExact}
-use Rattle.section.specs.Room.{Fine}
+use Rattle.section.specs.Parts.{Fine}
 
 pub scale-positive : {n : ℕ} → 0 < n → 0 < n * 1000000
 scale-positive h = mul-pos h (lit< tt)

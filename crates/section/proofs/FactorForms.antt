@@ -9,7 +9,7 @@ use Rattle.pair.specs.Pairs.{_to_}
 use Rattle.pair.specs.declared.Pair.{Pair}
 use Rattle.pair.proofs.Quotients.{ceil-le}
 use Rattle.section.specs.Working.{S, units, χ-before-down, χ-before-up, χ-from-down, χ-from-up, χ}
-use Rattle.section.specs.Room.{Fine}
+use Rattle.section.specs.Parts.{Fine}
 use Rattle.section.proofs.Ends.{scale-square-most}
 
 module _ (n u : ℕ) where

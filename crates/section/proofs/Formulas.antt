@@ -16,8 +16,8 @@ use Rattle.section.specs.declared.Stiffener.{Stiffener}
 use Rattle.section.specs.declared.Kept.{Kept}
 use Rattle.section.specs.Working.{S, whole, mid-line, lip-line, u², ρ-plane, half-kept, flange-of, stiffener-of, g, J, T, kf, D, ud, χ-of, full}
 use Rattle.section.specs.Working.{L, lip-moment, flange-moment, far-web-moment, near-web-moment, near-lip-moment, moment, z}
-use Rattle.section.specs.Nested.{FlangeInside, StiffenerInside, KeptInside}
 use Rattle.section.specs.Uncut.{taken-off}
+use Rattle.section.proofs.PartsInside.{FlangeInside, StiffenerInside, KeptInside}
 use Rattle.section.proofs.Ends.{scale-positive, finer, constant-exact, constant-inside}
 use Rattle.section.proofs.Shares.{ρ-plane-inside, ρ-lip-inside}
 use Rattle.section.proofs.Factor.{χ-inside}

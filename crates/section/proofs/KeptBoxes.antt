@@ -8,7 +8,7 @@ use Rattle.pair.proofs.Bounds.{times-box}
 use Rattle.section.specs.declared.Kept.{Kept}
 use Rattle.section.specs.declared.Stiffener.{Stiffener}
 use Rattle.section.specs.Working.{S}
-use Rattle.section.specs.Room.{Fine}
+use Rattle.section.specs.Parts.{Fine}
 use Rattle.section.proofs.Ends.{scale}
 
 -- a stiffener of any sheet

@@ -7,6 +7,7 @@ pub mod CoefficientForms
 pub mod RoundForms
 pub mod SamePairs
 pub mod Coefficient
+pub mod PartsInside
 pub mod Formulas
 pub mod Whole
 pub mod Promise

@@ -15,9 +15,9 @@ use Rattle.pair.proofs.Laws.{ratio-ordered}
 use Rattle.pair.proofs.Ratios.{ratio-exact}
 use Rattle.pair.proofs.Bounds.{exact-at-most}
 use Rattle.section.specs.declared.Sheet.{Sheet}
-use Rattle.section.specs.Sheets.{Question2, Sound}
+use Rattle.section.specs.Sound.{Question2, Sound}
 use Rattle.section.specs.Working.{S, constant, units, mm}
-use Rattle.section.specs.Room.{Fine}
+use Rattle.section.specs.Parts.{Fine}
 use Rattle.section.specs.Uncut.{NotCut, Uncut, QuestionsUncut}
 use Rattle.section.proofs.Ends.{own-fine, constant-inside}
 use Rattle.section.proofs.Formulas.{taken-off-inside, half-inside, mid-line-inside}

@@ -10,11 +10,11 @@ use Rattle.pair.specs.declared.Pair.{Pair}
 use Rattle.pair.proofs.Laws.{positive-inside, ratio-positive, times-inside, over-inside}
 use Rattle.section.specs.declared.Stiffener.{Stiffener}
 use Rattle.section.specs.declared.Sheet.{Sheet}
-use Rattle.section.specs.Sheets.{Sound}
+use Rattle.section.specs.Sound.{Sound}
 use Rattle.section.specs.Working.{S, whole, mm, mid-line, k}
-use Rattle.section.specs.Nested.{StiffenerInside}
-use Rattle.section.specs.Room.{cp-of}
+use Rattle.section.specs.Parts.{cp-of}
 use Rattle.section.specs.Divisors.{AboveZero, StiffenerAboveZero, DivisorsAboveZero}
+use Rattle.section.proofs.PartsInside.{StiffenerInside}
 use Rattle.section.proofs.Ends.{scale-positive, own-fine, finer, constant-exact, constant-inside}
 use Rattle.section.proofs.Coefficient.{k-inside, k-positive}
 use Rattle.section.proofs.Formulas.{whole-times-positive, mid-line-inside, lip-line-inside, J-inside, L-inside}

@@ -7,17 +7,17 @@ use native.Mathlib.Nat.{le-trans, lt-of-le-of-lt, lt-of-not-le, not-le-of-lt, mu
 use native.Mathlib.Omega.{arith}
 use borrow.Author.Tests.{leb-true, leb-false, le-leb, lt-leb}
 use lib.Dec.{lit<}
-use lib.IntN.{ℤ, pos, _*ℤ_}
-use Rattle.pair.specs.SignedPairs.{plain}
+use lib.IntN.{ℤ, pos, natAbs, _*ℤ_}
+use Rattle.pair.specs.Forms.{plain}
 use Rattle.pair.specs.Enclosure.{Reaches}
 use Rattle.pair.specs.declared.Pair.{Pair}
 use Rattle.pair.proofs.SignedBounds.{Within, low-within, high-within, times-within, floor-within, ceil-within, signed-minus-reaches}
 use Rattle.section.specs.declared.Sheet.{Sheet}
-use Rattle.section.specs.Sheets.{Sound}
+use Rattle.section.specs.Sound.{Sound}
 use Rattle.section.specs.Working.{S, worked}
-use Rattle.section.specs.Figures.{Printed, printed, figures, FiguresBelow, Question11, allowed}
+use Rattle.section.specs.Figures.{Printed, printed, figures, Question11, allowed}
 use Rattle.section.specs.Forms.{figuresOf}
-use Rattle.section.specs.Room.{Fine}
+use Rattle.section.specs.Parts.{Fine}
 use Rattle.section.proofs.SheetNumbers.{section-numbers}
 use Rattle.section.proofs.SizesOfSheets.{hp-box, sheet-effective-box, sheet-full-box}
 use Rattle.section.proofs.SizesOfAxis.{axis-reaches}
@@ -60,6 +60,15 @@ module _ (n : ℕ) (q : Sheet) where
   pub not-allowed-is-unmet : (allowed n q ≡ false) ↔ (Question11 n q → ⊥)
   unfolding allowed
   not-allowed-is-unmet = (λ e h. not-le-of-lt (leb-false _ _ e) (h .allowed), λ no. lt-leb _ _ (lt-of-not-le (λ h. no (record { allowed = h }))))
+
+-- every figure lies below k, a shift on either side of zero
+pub record FiguresBelow (k : ℕ) (p : Printed) : Type 0 where
+  pub area : p .area < k
+  pub axial : p .axial < k
+  pub chi1 : p .chi1 < k
+  pub chi2 : p .chi2 < k
+  pub shiftlo : natAbs (p .shiftlo) < k
+  pub shifthi : natAbs (p .shifthi) < k
 
 -- how large the figures are: axial at most 4788000, a factor at most 1000, a shift at most 9640000 from zero (the area: Printing)
 

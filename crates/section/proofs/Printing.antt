@@ -4,16 +4,16 @@ use Prim.Native.Nat.{ℕ, _*_, _/_, _^_, _≤_, _<_}
 use native.Mathlib.Nat.{lt-of-le-of-lt, mul-pos, mul-le-mul, mul-le-mul-left, div-le-of-le-mul}
 use native.Mathlib.Omega.{arith}
 use Rattle.pair.specs.Rounding.{ceilDiv}
-use Rattle.pair.specs.SignedPairs.{meaning}
+use Rattle.pair.specs.Forms.{meaning}
 use Rattle.pair.proofs.Quotients.{ceil-le}
 use Rattle.pair.proofs.SignedForms.{pair-means}
 use Rattle.section.specs.declared.Sheet.{Sheet}
 use Rattle.section.specs.declared.Work.{Work}
-use Rattle.section.specs.Sheets.{Sound}
+use Rattle.section.specs.Sound.{Sound}
 use Rattle.section.specs.Working.{S, Worked, worked}
 use Rattle.section.specs.Figures.{printed, figures}
 use Rattle.section.specs.Forms.{workOf}
-use Rattle.section.specs.Room.{Fine}
+use Rattle.section.specs.Parts.{Fine}
 use Rattle.section.proofs.Ends.{scale-most}
 use Rattle.section.proofs.SheetNumbers.{section-numbers}
 use Rattle.section.proofs.SizesOfSheets.{sheet-effective-box}

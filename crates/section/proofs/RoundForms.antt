@@ -12,7 +12,8 @@ use Rattle.pair.specs.declared.Pair.{Pair}
 use Rattle.section.specs.declared.Flange.{Flange}
 use Rattle.section.specs.declared.Round.{Round}
 use Rattle.section.specs.Working.{constant, mm, whole, factors, round, rounds}
-use Rattle.section.specs.Room.{Fine, Factor, Steady}
+use Rattle.section.specs.Parts.{Fine}
+use Rattle.section.specs.Room.{Factor, Steady}
 use Rattle.section.proofs.BoxRooms.{one-box, box-factor, ratio-room}
 
 pub one-room : {n : ℕ} → Fine n → ratioFits (n * 1000000) 1 1 ≡ true

@@ -12,7 +12,8 @@ use Rattle.pair.specs.declared.Pair.{Pair}
 use Rattle.pair.proofs.Quotients.{ceil-le}
 use Rattle.pair.proofs.Bounds.{root-at-most}
 use Rattle.section.specs.Working.{S, whole, units, ρ-down, ρ-up, ρ, ρ-plane, ρ-lip}
-use Rattle.section.specs.Room.{Fine, Share, Slim}
+use Rattle.section.specs.Parts.{Fine}
+use Rattle.section.specs.Room.{Share, Slim}
 use Rattle.section.proofs.Ends.{scale-most, scale-square-most}
 use Rattle.section.proofs.BoxRooms.{constant-box}
 

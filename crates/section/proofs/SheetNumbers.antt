@@ -6,9 +6,10 @@ use Rattle.pair.specs.Pairs.{_to_, over}
 use Rattle.pair.specs.Enclosure.{Inside}
 use Rattle.pair.proofs.Bounds.{minus-box, minus-fits}
 use Rattle.section.specs.declared.Sheet.{Sheet}
-use Rattle.section.specs.Sheets.{Sound}
+use Rattle.section.specs.Sound.{Sound}
 use Rattle.section.specs.Working.{S, mm, whole, mid-line, lip-line}
-use Rattle.section.specs.Room.{Fine, MidRoom, LipRoom}
+use Rattle.section.specs.Parts.{Fine}
+use Rattle.section.specs.Room.{MidRoom, LipRoom}
 use Rattle.section.proofs.BoxRooms.{wider, mm-box, half-box, ratio-room, over-two}
 
 -- a web: core thickness t and depth d between mid-lines, in 0.01 mm

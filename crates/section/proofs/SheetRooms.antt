@@ -1,8 +1,9 @@
 -- Every operation of the working of a sheet that meets the questions has room, at our scale and up to ten times it.
 use Prim.Native.Nat.{ℕ}
 use Rattle.section.specs.declared.Sheet.{Sheet}
-use Rattle.section.specs.Sheets.{Sound}
-use Rattle.section.specs.Room.{Fine, SheetRoom}
+use Rattle.section.specs.Sound.{Sound}
+use Rattle.section.specs.Parts.{Fine}
+use Rattle.section.specs.Room.{SheetRoom}
 use Rattle.section.proofs.SheetNumbers.{section-numbers, hp-room, bp₁-room, bp₂-room, cp-room}
 use Rattle.section.proofs.SizesOfSheets.{hp-box, cp-box, bp₁-box, bp₂-box, flange₁-room, flange₂-room, sheet-effective-room, sheet-effective-box, sheet-full-box}
 use Rattle.section.proofs.SizesOfAxis.{axis-room, shift-room, area-room, full-room}

@@ -13,7 +13,8 @@ use Rattle.pair.proofs.Bounds.{plus-box, times-box}
 use Rattle.pair.proofs.SignedBounds.{signed-over-reaches, signed-over-fits}
 use Rattle.section.specs.declared.Kept.{Kept}
 use Rattle.section.specs.Working.{_⊕_, S, whole, mm, L, z, full}
-use Rattle.section.specs.Room.{Fine, AxisRoom, FullRoom}
+use Rattle.section.specs.Parts.{Fine}
+use Rattle.section.specs.Room.{AxisRoom, FullRoom}
 use Rattle.section.proofs.Ends.{scale, word-at}
 use Rattle.section.proofs.BoxRooms.{wider, mm-box, one-box, plus-room, by-times, half-box, over-two, signed-plus-room}
 use Rattle.section.proofs.KeptBoxes.{KeptBox}

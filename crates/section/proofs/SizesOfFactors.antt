@@ -9,7 +9,8 @@ use Rattle.pair.specs.Enclosure.{Inside}
 use Rattle.pair.specs.declared.Pair.{Pair}
 use Rattle.pair.proofs.Bounds.{plus-box, times-box, over-box, root-box}
 use Rattle.section.specs.Working.{S, constant, whole, D, ud}
-use Rattle.section.specs.Room.{Fine, BendRoom, UdRoom}
+use Rattle.section.specs.Parts.{Fine}
+use Rattle.section.specs.Room.{BendRoom, UdRoom}
 use Rattle.section.proofs.Ends.{scale}
 use Rattle.section.proofs.BoxRooms.{wider, constant-box, whole-box, plus-room, times-room, over-room, root-room, times-by, by-times, over-by}
 

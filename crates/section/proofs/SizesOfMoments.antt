@@ -12,7 +12,8 @@ use Rattle.pair.proofs.SignedLaws.{signed-ordered, difference-ordered}
 use Rattle.pair.proofs.SignedBounds.{signed-times-reaches, signed-times-fits}
 use Rattle.section.specs.declared.Kept.{Kept}
 use Rattle.section.specs.Working.{_⊕_, _⊖_, _⊞_, S, whole, L, lip-moment, flange-moment, far-web-moment, near-web-moment, near-lip-moment, moment}
-use Rattle.section.specs.Room.{Fine, FixedRoom, LengthRoom, LipMomentRoom, FlangeMomentRoom, FarWebRoom, NearWebRoom, NearLipRoom, outer, OuterRoom, WebRoom, MomentRoom}
+use Rattle.section.specs.Parts.{Fine}
+use Rattle.section.specs.Room.{FixedRoom, LengthRoom, LipMomentRoom, FlangeMomentRoom, FarWebRoom, NearWebRoom, NearLipRoom, outer, OuterRoom, WebRoom, MomentRoom}
 use Rattle.section.proofs.Ends.{scale, word-at}
 use Rattle.section.proofs.KeptBoxes.{KeptBox, lip-square-box}
 use Rattle.section.proofs.BoxRooms.{wider, box-positive, plus-room, times-room, half-box, over-two, signed-reach, difference-reach, signed-plus-reach, signed-plus-room}

@@ -12,7 +12,8 @@ use Rattle.pair.proofs.Bounds.{over-box}
 use Rattle.section.specs.declared.Flange.{Flange}
 use Rattle.section.specs.declared.Stiffener.{Stiffener}
 use Rattle.section.specs.Working.{S, mm, whole, stiffener-of, g, J, T, kf, D, ud, χ-of, factors, round, rounds, effective}
-use Rattle.section.specs.Room.{Fine, FactorRoom, FactorsRoom, Factor, Steady, EffectiveRoom}
+use Rattle.section.specs.Parts.{Fine}
+use Rattle.section.specs.Room.{FactorRoom, FactorsRoom, Factor, Steady, EffectiveRoom}
 use Rattle.section.proofs.Factor.{χ-box}
 use Rattle.section.proofs.Ends.{scale}
 use Rattle.section.proofs.RoundForms.{one-factor, factors-most}

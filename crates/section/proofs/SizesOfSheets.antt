@@ -7,9 +7,10 @@ use Rattle.pair.specs.Pairs.{_to_}
 use Rattle.pair.specs.Enclosure.{Inside}
 use Rattle.section.specs.declared.Stiffener.{Stiffener}
 use Rattle.section.specs.declared.Sheet.{Sheet}
-use Rattle.section.specs.Sheets.{Sound}
+use Rattle.section.specs.Sound.{Sound}
 use Rattle.section.specs.Working.{mm, whole, rounds}
-use Rattle.section.specs.Room.{Fine, FlangeRoom, EffectiveRoom, hp-of, cp-of, bp₁-of, bp₂-of, flange₁-of, flange₂-of, effective-of, full-of}
+use Rattle.section.specs.Parts.{Fine, hp-of, cp-of, bp₁-of, bp₂-of, flange₁-of, flange₂-of, effective-of, full-of}
+use Rattle.section.specs.Room.{FlangeRoom, EffectiveRoom}
 use Rattle.section.proofs.Ends.{own-fine}
 use Rattle.section.proofs.Whole.{StiffenerDivisors, SheetDivisors, sheet-divisors}
 use Rattle.section.proofs.KeptBoxes.{KeptBox}

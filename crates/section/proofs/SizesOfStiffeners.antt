@@ -11,7 +11,8 @@ use Rattle.pair.proofs.Bounds.{plus-box, minus-box, times-box, over-box, root-b
 use Rattle.section.specs.declared.Flange.{Flange}
 use Rattle.section.specs.declared.Stiffener.{Stiffener}
 use Rattle.section.specs.Working.{S, mm, whole, ρ-plane, ρ-lip, half-kept, stiffener-of, g, J, T}
-use Rattle.section.specs.Room.{Fine, StiffenerRoom, CentreRoom, InertiaRoom, StressRoom}
+use Rattle.section.specs.Parts.{Fine}
+use Rattle.section.specs.Room.{StiffenerRoom, CentreRoom, InertiaRoom, StressRoom}
 use Rattle.section.proofs.Shares.{ρ-flange-box, ρ-lip-box}
 use Rattle.section.proofs.Ends.{scale}
 use Rattle.section.proofs.KeptBoxes.{StiffenerRange, lip-square-box}

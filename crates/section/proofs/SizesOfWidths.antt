@@ -10,7 +10,8 @@ use Rattle.pair.specs.declared.Pair.{Pair}
 use Rattle.pair.proofs.Bounds.{times-box, over-box, root-box}
 use Rattle.section.specs.declared.Flange.{Flange}
 use Rattle.section.specs.Working.{S, constant, mm, whole, u², k, ρ-plane, half-kept, flange-of}
-use Rattle.section.specs.Room.{Fine, SlenderRoom, HalfRoom, FlangeRoom, WebKeptRoom}
+use Rattle.section.specs.Parts.{Fine}
+use Rattle.section.specs.Room.{SlenderRoom, HalfRoom, FlangeRoom, WebKeptRoom}
 use Rattle.section.proofs.Shares.{ρ-web-box}
 use Rattle.section.proofs.Coefficient.{k-box}
 use Rattle.section.proofs.Ends.{scale}

@@ -2,9 +2,9 @@
 use Prim.Native.Nat.{ℕ, _*_, _<_}
 use native.Mathlib.Omega.{arith}
 use Rattle.section.specs.declared.Sheet.{Sheet}
-use Rattle.section.specs.Sheets.{Question2, Sound}
+use Rattle.section.specs.Sound.{Question2, Sound}
 use Rattle.section.specs.Working.{worked}
-use Rattle.section.specs.Figures.{figures, FiguresBelow, Question11, Held}
+use Rattle.section.specs.Figures.{figures, Question11, Held}
 use Rattle.section.specs.Nested.{WorkedInside}
 use Rattle.section.specs.Uncut.{Uncut, QuestionsUncut}
 use Rattle.section.specs.Divisors.{DivisorsAboveZero}
@@ -13,7 +13,7 @@ use Rattle.section.proofs.Ends.{own-fine, every-constant-exact}
 use Rattle.section.proofs.Whole.{worked-inside}
 use Rattle.section.proofs.Promise.{held}
 use Rattle.section.proofs.SizesOfSheets.{sound-divisors}
-use Rattle.section.proofs.PrintedFigures.{figures-below}
+use Rattle.section.proofs.PrintedFigures.{FiguresBelow, figures-below}
 use Rattle.section.proofs.NothingCut.{uncut, questions-uncut}
 use Rattle.section.proofs.NothingZero.{nothing-zero}
 

@@ -12,9 +12,9 @@ use Rattle.section.specs.declared.Stiffener.{Stiffener}
 use Rattle.section.specs.declared.Round.{Round}
 use Rattle.section.specs.declared.Sheet.{Sheet}
 use Rattle.section.specs.Working.{whole, mm, mid-line, lip-line, flange-of, J, round, rounds, L, full, effective, worked}
-use Rattle.section.specs.Nested.{FlangeInside, StiffenerInside, RoundInside, KeptInside, WorkedInside}
-use Rattle.section.specs.Room.{hp-of, cp-of, bp₁-of, bp₂-of, effective-of, full-of}
-use Rattle.section.specs.Uncut.{round-of}
+use Rattle.section.specs.Nested.{WorkedInside}
+use Rattle.section.specs.Parts.{hp-of, cp-of, bp₁-of, bp₂-of, effective-of, full-of, round-of}
+use Rattle.section.proofs.PartsInside.{FlangeInside, StiffenerInside, RoundInside, KeptInside}
 use Rattle.section.proofs.Ends.{finer, constant-inside}
 use Rattle.section.proofs.Formulas.{mid-line-inside, lip-line-inside, web-inside, flange-inside, stiffener-inside, g-inside, J-inside, kf-inside, χ-of-inside, L-inside, z-inside, full-inside}
 

@@ -1,4 +1,4 @@
--- Sheet numbers and written constants are exact at every scale. (Document 01, "Pairs and the scale": "both ends equal".)
+-- Sheet numbers and written constants are exact at every scale. (docs/WORKING.md, 3: both ends are equal.)
 -- Both ends of `constant a b`, and a limit `units a b`, are a × S / b rounded down: the value a ÷ b itself where b divides a × S. It does, whatever a is,
 -- for every denominator of specs/Working.antt; a field for each, with the values that have it.
 use Prim.Native.Nat.{ℕ, _*_}

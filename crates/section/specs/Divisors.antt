@@ -1,5 +1,5 @@
 -- What the working of a sheet and its printed figures divide by is never zero. A field for each divisor of specs/Working.antt and specs/Figures.antt.
--- (Document 01, "Pairs and the scale" to "Area, resistance, shift".)
+-- (docs/WORKING.md, 3 to 13.)
 -- A numeral has no field: the denominators of written constants (specs/Constants.antt), and in χ the 1000 of 1.47 − 0.723 × ud and the 138 of 0.66/1.38.
 -- Roots divide by nothing.
 use Prim.Native.Nat.{ℕ, _*_, _≤_, _<_}
@@ -8,8 +8,7 @@ use Rattle.pair.specs.declared.Pair.{Pair}
 use Rattle.section.specs.declared.Stiffener.{Stiffener}
 use Rattle.section.specs.declared.Sheet.{Sheet}
 use Rattle.section.specs.Working.{S, constant, whole, units, mm, k, J, L}
-use Rattle.section.specs.Room.{cp-of, bp₁-of, bp₂-of, effective-of, full-of}
-use Rattle.section.specs.Uncut.{round-of}
+use Rattle.section.specs.Parts.{cp-of, bp₁-of, bp₂-of, effective-of, full-of, round-of}
 
 -- both ends: the upper divides for the lower end of a quotient, the lower for the upper end
 pub record AboveZero (p : Pair) : Type 0 where

@@ -1,7 +1,7 @@
--- The printed figures, the eleventh question, and what they promise of every finer working. (Document 01, "Area, resistance, shift".)
+-- The printed figures, the eleventh question, and what they promise of every finer working. (docs/WORKING.md, 13, 15 and 16.)
 use Prim.Native.Nat.{ℕ, _+_, _*_, _/_, _≤_, _<_}
 use mathlib.Core.Bool.{Bool}
-use lib.IntN.{ℤ, pos, natAbs, _*ℤ_}
+use lib.IntN.{ℤ, pos, _*ℤ_}
 use Rattle.pair.specs.Integers.{_≤ℤ_, floorOver, ceilOver}
 use Rattle.section.specs.declared.Sheet.{Sheet}
 use Rattle.section.specs.Claims.{Claim, _≤?_, Holds, test}
@@ -31,15 +31,6 @@ printed n fyb gm0 w =
 -- the figures of a sheet, at fineness n
 unfoldable pub figures : ℕ → Sheet → Printed
 figures n q = printed n (q .fyb) (q .gm0) (worked n q)
-
--- every figure lies below k, a shift on either side of zero
-pub record FiguresBelow (k : ℕ) (p : Printed) : Type 0 where
-  pub area : p .area < k
-  pub axial : p .axial < k
-  pub chi1 : p .chi1 < k
-  pub chi2 : p .chi2 < k
-  pub shiftlo : natAbs (p .shiftlo) < k
-  pub shifthi : natAbs (p .shifthi) < k
 
 -- Is the area's upper end at most area + allow (in 0.01 mm²)?
 abbrev pub allowance : ℕ → Sheet → Claim

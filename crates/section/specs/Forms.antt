@@ -1,7 +1,7 @@
 -- The code's structs, as forms of what is specified.
 use Prim.Native.Nat.{ℕ}
 use mathlib.Core.Path.{_≡_}
-use Rattle.pair.specs.SignedPairs.{plain, plainPair}
+use Rattle.pair.specs.Forms.{plain, plainPair}
 use Rattle.section.specs.declared.Sheet.{Sheet}
 use Rattle.section.specs.declared.Lines.{Lines}
 use Rattle.section.specs.declared.Work.{Work}

@@ -1,9 +1,11 @@
 pub mod Claims
 pub mod Sheets
+pub mod Sound
 pub mod Working
 pub mod Figures
 pub mod Forms
 pub mod Nested
+pub mod Parts
 pub mod Room
 pub mod Uncut
 pub mod Divisors

@@ -1,8 +1,11 @@
--- What each function of the working asks of its operands: that each of its operations has room (specs/Fits of crate pair), a field for each.
-use Prim.Native.Nat.{ℕ, _*_, _≤_, _<_}
+-- This need not be believed. It is what the operations of the working ask of their operands (specs/Fits of crate pair), a field for each,
+-- gathered for each function. It stands here because contracts cite it, those of the functions beneath `work`. `SheetRoom`, at the end, is
+-- what the working of a whole sheet asks, and `sheet-room` (proofs/SheetRooms) gives it for every sheet that meets questions 2 to 10 and every
+-- n from 1 to 10.
+use Prim.Native.Nat.{ℕ, _*_, _≤_}
 use mathlib.Core.Path.{_≡_}
 use mathlib.Core.Bool.{true}
-use Rattle.pair.specs.Pairs.{ratio, times, over, root, cubeRoot}
+use Rattle.pair.specs.Pairs.{times, over, root, cubeRoot}
 use Rattle.pair.specs.SignedPairs.{SignedPair, signed, difference}
 use Rattle.pair.specs.Fits.{ratioFits, plusFits, minusFits, timesFits, overFits, timesRatioFits, overRatioFits, rootFits, cubeRootFits, signedPlusFits, signedTimesFits, signedOverFits}
 use Rattle.pair.specs.declared.Pair.{Pair}
@@ -10,12 +13,8 @@ use Rattle.section.specs.declared.Flange.{Flange}
 use Rattle.section.specs.declared.Stiffener.{Stiffener}
 use Rattle.section.specs.declared.Kept.{Kept}
 use Rattle.section.specs.declared.Sheet.{Sheet}
-use Rattle.section.specs.Working.{_⊕_, _⊖_, _⊞_, S, constant, whole, mm, mid-line, lip-line, u², ρ-plane, ρ-lip, k, flange-of, stiffener-of, g, J, T, kf, D, ud, round, rounds, L, lip-moment, flange-moment, far-web-moment, near-web-moment, near-lip-moment, moment, z, full, effective}
-
--- our scale, or up to ten times it
-pub record Fine (n : ℕ) : Type 0 where
-  pub some : 0 < n
-  pub most : n ≤ 10
+use Rattle.section.specs.Working.{_⊕_, _⊖_, _⊞_, S, constant, mm, u², ρ-plane, ρ-lip, k, stiffener-of, g, J, T, kf, D, ud, round, L, lip-moment, flange-moment, far-web-moment, near-web-moment, near-lip-moment, moment, z}
+use Rattle.section.specs.Parts.{Fine, hp-of, cp-of, bp₁-of, bp₂-of, flange₁-of, flange₂-of, effective-of, full-of}
 
 module _ (n : ℕ) where
   infixl 7 _⊗_
@@ -307,31 +306,6 @@ module _ (n : ℕ) where
     pub steady : Steady t fyb hp cp f₁ f₂
     pub web : WebKeptRoom t fyb hp
 
-  -- the pairs of a sheet's working
-  abbrev pub hp-of : Sheet → Pair
-  hp-of q = mid-line n (q .h) (q .tnom .0)
-
-  abbrev pub cp-of : Sheet → Pair
-  cp-of q = lip-line n (q .c) (q .tnom .0)
-
-  abbrev pub bp₁-of : Sheet → Pair
-  bp₁-of q = mid-line n (q .b1) (q .tnom .0)
-
-  abbrev pub bp₂-of : Sheet → Pair
-  bp₂-of q = mid-line n (q .b2) (q .tnom .0)
-
-  abbrev pub flange₁-of : Sheet → Flange
-  flange₁-of q = flange-of n (mm n (q .t .0)) (whole n (q .fyb)) (cp-of q) (bp₁-of q)
-
-  abbrev pub flange₂-of : Sheet → Flange
-  flange₂-of q = flange-of n (mm n (q .t .0)) (whole n (q .fyb)) (cp-of q) (bp₂-of q)
-
-  abbrev pub effective-of : Sheet → Kept
-  effective-of q = effective n (mm n (q .t .0)) (whole n (q .fyb)) (hp-of q) (cp-of q) (flange₁-of q) (flange₂-of q) (q .rounds)
-
-  abbrev pub full-of : Sheet → Kept
-  full-of q = full n (hp-of q) (cp-of q) (bp₁-of q) (bp₂-of q)
-
   -- every operation of a sheet's working has room
   pub record SheetRoom (q : Sheet) : Type 0 where
     pub fine : Fine n
@@ -339,11 +313,11 @@ module _ (n : ℕ) where
     pub cp : LipRoom (q .c) (q .tnom .0)
     pub bp₁ : MidRoom (q .b1) (q .tnom .0)
     pub bp₂ : MidRoom (q .b2) (q .tnom .0)
-    pub flange₁ : FlangeRoom (q .t .0) (q .fyb) (cp-of q) (bp₁-of q)
-    pub flange₂ : FlangeRoom (q .t .0) (q .fyb) (cp-of q) (bp₂-of q)
-    pub effective : EffectiveRoom (q .t .0) (q .fyb) (hp-of q) (cp-of q) (flange₁-of q) (flange₂-of q)
-    pub axis : AxisRoom (hp-of q) (effective-of q)
-    pub full : FullRoom (hp-of q) (cp-of q) (bp₁-of q) (bp₂-of q)
-    pub gross : AxisRoom (hp-of q) (full-of q)
-    pub area : timesRatioFits (S n) (L n (effective-of q)) (q .t .0) 100 ≡ true
-    pub shift : signedPlusFits (z n (hp-of q) (effective-of q)) (z n (hp-of q) (full-of q)) ≡ true
+    pub flange₁ : FlangeRoom (q .t .0) (q .fyb) (cp-of n q) (bp₁-of n q)
+    pub flange₂ : FlangeRoom (q .t .0) (q .fyb) (cp-of n q) (bp₂-of n q)
+    pub effective : EffectiveRoom (q .t .0) (q .fyb) (hp-of n q) (cp-of n q) (flange₁-of n q) (flange₂-of n q)
+    pub axis : AxisRoom (hp-of n q) (effective-of n q)
+    pub full : FullRoom (hp-of n q) (cp-of n q) (bp₁-of n q) (bp₂-of n q)
+    pub gross : AxisRoom (hp-of n q) (full-of n q)
+    pub area : timesRatioFits (S n) (L n (effective-of n q)) (q .t .0) 100 ≡ true
+    pub shift : signedPlusFits (z n (hp-of n q) (effective-of n q)) (z n (hp-of n q) (full-of n q)) ≡ true

@@ -1,15 +1,15 @@
 -- Subtraction of natural numbers is cut at zero; in the working of a sheet and in the questions on it, it never is.
--- `Uncut` has a field for each subtraction of specs/Working.antt, at one scale; `QuestionsUncut` has one for each of specs/Sheets.antt; specs/Figures.antt has none.
--- (Document 01, "Widths and slenderness" to "Area, resistance, shift", and "The questions, in this order". hp − c2÷2 and the shift are signed.
+-- `Uncut` has a field for each subtraction of specs/Working.antt, at one scale; `QuestionsUncut` has one for each of specs/Sheets.antt;
+-- specs/Figures.antt has none.
+-- (docs/WORKING.md, 4 to 12 and 15. hp − c2÷2 and the shift are signed.
 -- The d − 1 of `ceilDiv` is not cut, since no divisor is zero: specs/Divisors.antt.)
 use Prim.Native.Nat.{ℕ, _*_, _≤_, _<_}
 use Rattle.pair.specs.Pairs.{_to_, times, over}
 use Rattle.pair.specs.declared.Pair.{Pair}
 use Rattle.section.specs.declared.Stiffener.{Stiffener}
-use Rattle.section.specs.declared.Round.{Round}
 use Rattle.section.specs.declared.Sheet.{Sheet}
-use Rattle.section.specs.Working.{S, constant, whole, units, mm, rounds}
-use Rattle.section.specs.Room.{hp-of, cp-of, bp₁-of, bp₂-of, flange₁-of, flange₂-of, effective-of, full-of}
+use Rattle.section.specs.Working.{S, constant, whole, units, mm}
+use Rattle.section.specs.Parts.{hp-of, bp₁-of, bp₂-of, effective-of, full-of, round-of}
 
 -- no end of p − q is cut at zero
 pub record NotCut (p q : Pair) : Type 0 where
@@ -29,10 +29,6 @@ module _ (n : ℕ) where
   abbrev pub taken-off : Stiffener → Pair
   taken-off s = s .be2 ⊗ s .be2 ⊘ (whole n 2 ⊗ s .a)
 
-  -- the round that the i-th refining gives, and the first working for 0
-  abbrev pub round-of : Sheet → ℕ → Round
-  round-of q i = rounds n (mm n (q .t .0)) (whole n (q .fyb)) (hp-of n q) (cp-of n q) (flange₁-of n q) (flange₂-of n q) i
-
   pub record Uncut (q : Sheet) : Type 0 where
     -- hp = h − tnom, bp1 = b1 − tnom, bp2 = b2 − tnom, cp = c − tnom/2
     pub hp : NotCut (mm n (q .h)) (mm n (q .tnom .0))
@@ -45,8 +41,8 @@ module _ (n : ℕ) where
     -- k, at each end of cp÷bp: q − 0.35 past 0.35
     pub k : (x : ℕ) → units n 35 100 < x → NotCut (x to x) (constant n 35 100)
     -- g = bp − be2×be2÷(2×a) of each flange, in every round
-    pub g₁ : (i : ℕ) → NotCut (bp₁-of n q) (taken-off ((round-of q i) .one))
-    pub g₂ : (i : ℕ) → NotCut (bp₂-of n q) (taken-off ((round-of q i) .two))
+    pub g₁ : (i : ℕ) → NotCut (bp₁-of n q) (taken-off ((round-of n q i) .one))
+    pub g₂ : (i : ℕ) → NotCut (bp₂-of n q) (taken-off ((round-of n q i) .two))
     -- χ, at each end of ud below 1.38: 1.47 − 0.723 × ud, in thousandths
     pub χ : (u : ℕ) → u < units n 138 100 → 723 * u ≤ 1470 * S n
     -- hp − he÷2, of what counts and of the full section

@@ -1,4 +1,5 @@
--- The working of a section, in document 01's order and with its symbols, one definition for each formula.
+-- The working of a section, in document 01's order and with its symbols, one definition for each formula. docs/WORKING.md has the same in words;
+-- the numbers in brackets are its sections.
 -- n is the fineness: the scale S is n × 1,000,000. At n = 1 this is the paper's own working, and at m × n the same paper with S replaced by m × S.
 use Prim.Native.Nat.{ℕ, zero, suc, _-_, _*_, _/_, min, max}
 use mathlib.Core.Bool.{cond}
@@ -58,42 +59,42 @@ module _ (n : ℕ) where
 
   -- Widths and slenderness ----------------------------------------------------------------------------------------------
 
-  -- a length of the sheet, in 0.01 mm
+  -- a length of the sheet, in 0.01 mm (2)
   abbrev pub mm : ℕ → Pair
   mm v = constant v 100
 
-  -- hp = h − tnom, bp1 = b1 − tnom, bp2 = b2 − tnom: mid-line lengths, from the nominal thickness
+  -- hp = h − tnom, bp1 = b1 − tnom, bp2 = b2 − tnom: mid-line lengths, from the nominal thickness (4)
   unfoldable pub mid-line : ℕ → ℕ → Pair
   mid-line w tnom = mm w ⊖ mm tnom
 
-  -- cp = c − tnom/2
+  -- cp = c − tnom/2 (4)
   unfoldable pub lip-line : ℕ → ℕ → Pair
   lip-line c tnom = mm c ⊖ mm tnom ⊘ whole 2
 
-  -- u² of a plane of width w and buckling coefficient k, from the core thickness t; the quotient w÷t is rounded once
+  -- u² of a plane of width w and buckling coefficient k, from the core thickness t; the quotient w÷t is rounded once (5)
   unfoldable pub u² : Pair → Pair → Pair → Pair → Pair
   u² t fyb k w = let r = w ⊘ t in r ⊗ r ⊗ fyb ⊘ constant 1895416 10 ⊘ k
 
-  -- ρ, the part of the width that counts, at one end: 1 up to a limit, else the smaller of 1 and (u − less)/u², rounded down or up
+  -- ρ, the part of the width that counts, at one end: 1 up to a limit, else the smaller of 1 and (u − less)/u², rounded down or up (6, 7)
   unfoldable pub ρ-down : ℕ → ℕ → ℕ → ℕ
   ρ-down limit less u = cond (leb u limit) S (min S ((u - less) * (S * S) / (u * u)))
 
   unfoldable pub ρ-up : ℕ → ℕ → ℕ → ℕ
   ρ-up limit less u = cond (leb u limit) S (min S (ceilDiv ((u - less) * (S * S)) (u * u)))
 
-  -- at the ends: ρ falls, so its lower end comes from the upper end of u
+  -- at the ends: ρ falls, so its lower end comes from the upper end of u (3)
   unfoldable pub ρ : ℕ → ℕ → Pair → Pair
   ρ limit less u = ρ-down limit less (u .hi) to ρ-up limit less (u .lo)
 
-  -- web and flanges: ρ = 1 for u ≤ 0.673, else (u − 0.22)/u²
+  -- web and flanges: ρ = 1 for u ≤ 0.673, else (u − 0.22)/u² (6)
   unfoldable pub ρ-plane : Pair → Pair
   ρ-plane u = ρ (units 673 1000) (units 22 100) u
 
-  -- lip: ρ = 1 for u ≤ 0.748, else (u − 0.188)/u²
+  -- lip: ρ = 1 for u ≤ 0.748, else (u − 0.188)/u² (7)
   unfoldable pub ρ-lip : Pair → Pair
   ρ-lip u = ρ (units 748 1000) (units 188 1000) u
 
-  -- k of the lip past q = 0.35: 0.5 + 0.83 × cube root of ((q − 0.35)×(q − 0.35))
+  -- k of the lip past q = 0.35: 0.5 + 0.83 × cube root of ((q − 0.35)×(q − 0.35)) (7)
   unfoldable pub k-past : Pair → Pair
   k-past q = let d = q ⊖ constant 35 100 in constant 1 2 ⊕ constant 83 100 ⊗ cubeRoot S (d ⊗ d)
 
@@ -107,7 +108,7 @@ module _ (n : ℕ) where
 
   -- Stiffener of each flange --------------------------------------------------------------------------------------------
 
-  -- 0.5×ρ×w: be1 and be2 of a flange, he of the web
+  -- 0.5×ρ×w: be1 and be2 of a flange, he of the web (6)
   unfoldable pub half-kept : Pair → Pair → Pair
   half-kept r w = constant 1 2 ⊗ r ⊗ w
 
@@ -115,14 +116,14 @@ module _ (n : ℕ) where
   unfoldable pub flange-of : Pair → Pair → Pair → Pair → Flange
   flange-of t fyb cp bp = record { bp = bp; plane = u² t fyb (whole 4) bp; lip = u² t fyb (k (cp ⊘ bp)) cp }
 
-  -- be2, c_eff and a = be2 + c_eff, where u² of flange and lip is multiplied by the χ of the round before (1 in the first)
+  -- be2, c_eff and a = be2 + c_eff, where u² of flange and lip is multiplied by the χ of the round before, 1 in the first (8, 10)
   unfoldable pub stiffener-of : Pair → Flange → Pair → Stiffener
   stiffener-of cp f χ₀ =
       let be2 = half-kept (ρ-plane (root S (f .plane ⊗ χ₀))) (f .bp) in
       let c = ρ-lip (root S (f .lip ⊗ χ₀)) ⊗ cp in
       record { be2 = be2; c = c; a = be2 ⊕ c }
 
-  -- g = bp − be2×be2÷(2×a)
+  -- g = bp − be2×be2÷(2×a) (8, up to ud)
   unfoldable pub g : Pair → Stiffener → Pair
   g bp s = bp ⊖ s .be2 ⊗ s .be2 ⊘ (whole 2 ⊗ s .a)
 
@@ -151,7 +152,7 @@ module _ (n : ℕ) where
   unfoldable pub ud : Pair → Pair → Pair → Pair
   ud D J T = root S (root S (ud⁴ D J T))
 
-  -- χ, the thickness factor, at one end below 1.38: 1 for ud ≤ 0.65, else the smaller of 1 and 1.47 − 0.723 × ud
+  -- χ, the thickness factor, at one end below 1.38: 1 for ud ≤ 0.65, else the smaller of 1 and 1.47 − 0.723 × ud (9)
   unfoldable pub χ-before-down : ℕ → ℕ
   χ-before-down u = cond (leb u (units 65 100)) S (min S ((1470 * S - 723 * u) / 1000))
 
@@ -184,7 +185,7 @@ module _ (n : ℕ) where
       let g₂ = g bp₂ s₂ in
       record { one = s₁; two = s₂; chi1 = χ-of t fyb hp (kf s₁ s₂) g₁ g₂ s₁; chi2 = χ-of t fyb hp (kf s₁ s₂) g₂ g₁ s₂ }
 
-  -- one round, from both flanges' χ of the round before
+  -- one round, from both flanges' χ of the round before (10)
   unfoldable pub round : Pair → Pair → Pair → Pair → Flange → Flange → Pair → Pair → Round
   unfolding factors
   round t fyb hp cp f₁ f₂ χ₁ χ₂ = factors t fyb hp (f₁ .bp) (f₂ .bp) (stiffener-of cp f₁ χ₁) (stiffener-of cp f₂ χ₂)
@@ -198,7 +199,7 @@ module _ (n : ℕ) where
 
   -- Area, resistance, shift ---------------------------------------------------------------------------------------------
 
-  -- L = be1 of flange 1 + be1 of flange 2 + the web's two kept parts, p at flange 1 and m at flange 2 + a1×χ1 + a2×χ2
+  -- L = be1 of flange 1 + be1 of flange 2 + the web's two kept parts, p at flange 1 and m at flange 2 + a1×χ1 + a2×χ2 (11)
   unfoldable pub L : Kept → Pair
   L x = x .first1 ⊕ x .first2 ⊕ x .p ⊕ x .m ⊕ x .one .a ⊗ x .chi1 ⊕ x .two .a ⊗ x .chi2
 
@@ -231,7 +232,7 @@ module _ (n : ℕ) where
       ⊞ near-web-moment (x .p)
       ⊞ near-lip-moment (x .one .c) (x .chi1)
 
-  -- z, the distance of the neutral axis from flange 1
+  -- z, the distance of the neutral axis from flange 1 (12, from the lip's moment on)
   unfoldable pub z : Pair → Kept → SignedPair
   z hp x = signedOver S (moment hp x) (L x)
 

@@ -1,10 +1,11 @@
-// The buckling coefficient of a lip. (Document 01, "Widths and slenderness".)
+// The buckling coefficient of a lip. (docs/WORKING.md, 4 to 7.)
 use crate::widths;
 use pair::Pair;
 ghost use mathlib.Core.Path.{_≡_};
 ghost use Prim.Native.Nat.{_*_, _≤_};
 ghost use Rattle.section.specs.Working.{k-past, k-at, k};
-ghost use Rattle.section.specs.Room.{Fine, PastRoom, LipRatio};
+ghost use Rattle.section.specs.Parts.{Fine};
+ghost use Rattle.section.specs.Room.{PastRoom, LipRatio};
 
 // Past q = 0.35: 0.5 + 0.83 * the cube root of (q - 0.35) * (q - 0.35).
 fn coefficient_past(n: u64, q: Pair) -> Pair

@@ -1,6 +1,6 @@
 // The part of a width that counts and the thickness factor, at the ends of a slenderness: each
-// falls, so its lower end comes from the upper end. (Document 01, "Widths and slenderness" and
-// "Stiffener of each flange".)
+// falls, so its lower end comes from the upper end. (docs/WORKING.md, 6, 7
+// and 9.)
 use pair::Pair;
 use pair::TwoPairs;
 use pair::wide;
@@ -10,7 +10,8 @@ ghost use Prim.Native.Nat.{_*_, _≤_, _<_, min, max};
 ghost use Rattle.pair.specs.Pairs.{root};
 ghost use Rattle.pair.specs.Fits.{rootFits};
 ghost use Rattle.section.specs.Working.{S, ρ-down, ρ-up, ρ-plane, ρ-lip, χ-before-down, χ-before-up, χ-from-down, χ-from-up, χ};
-ghost use Rattle.section.specs.Room.{Fine, Share, Slim};
+ghost use Rattle.section.specs.Parts.{Fine};
+ghost use Rattle.section.specs.Room.{Share, Slim};
 
 fn smaller(a: u64, b: u64) -> u64
     ensures { λ r. ⌜ r ≡ min a b ⌝ }

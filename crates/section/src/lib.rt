@@ -1,4 +1,4 @@
-// The working of a section, by document 01.
+// The working of a section. (docs/WORKING.md.)
 pub mod coefficients;
 pub mod factors;
 pub mod moments;

@@ -1,5 +1,5 @@
 // Length and first moment of what is kept, and the neutral axis.
-// (Document 01, "Area, resistance, shift".)
+// (docs/WORKING.md, 11 to 13.)
 use crate::Kept;
 use pair::Pair;
 use pair::signed::Signed;
@@ -7,7 +7,8 @@ ghost use mathlib.Core.Path.{_≡_};
 ghost use mathlib.Core.Bool.{true};
 ghost use Prim.Native.Nat.{_*_};
 ghost use Rattle.pair.specs.Fits.{signedPlusFits};
-ghost use Rattle.pair.specs.SignedPairs.{meaning, plainPair, signed};
+ghost use Rattle.pair.specs.SignedPairs.{signed};
+ghost use Rattle.pair.specs.Forms.{meaning, plainPair};
 ghost use Rattle.section.specs.Working.{_⊕_, _⊞_, L, lip-moment, flange-moment, far-web-moment, near-web-moment, near-lip-moment, moment, z};
 ghost use Rattle.section.specs.Room.{FixedRoom, LengthRoom, LipMomentRoom, FlangeMomentRoom, FarWebRoom, NearWebRoom, NearLipRoom, outer, OuterRoom, WebRoom, MomentRoom, AxisRoom};
 

@@ -1,4 +1,4 @@
-// The stiffeners of both flanges, worked and refined. (Document 01, "Stiffener of each flange".)
+// The stiffeners of both flanges, worked and refined. (docs/WORKING.md, 8 to 10.)
 use crate::Core;
 use crate::Flange;
 use crate::Round;

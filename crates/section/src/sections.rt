@@ -1,5 +1,5 @@
 // The working of a whole section, and the figures that are printed.
-// (Document 01, "Area, resistance, shift".)
+// (docs/WORKING.md, 11 to 13.)
 use crate::Core;
 use crate::Figures;
 use crate::Flange;
@@ -21,12 +21,13 @@ ghost use Prim.Native.Nat.{_*_, _/_, _≤_};
 ghost use lib.IntN.{pos, _*ℤ_};
 ghost use Rattle.pair.specs.Pairs.{root};
 ghost use Rattle.pair.specs.Integers.{floorOver, ceilOver};
-ghost use Rattle.pair.specs.SignedPairs.{plain, meaning};
-ghost use Rattle.section.specs.Sheets.{Sound};
+ghost use Rattle.pair.specs.Forms.{plain, meaning};
+ghost use Rattle.section.specs.Sound.{Sound};
 ghost use Rattle.section.specs.Working.{S, mm, whole, u², ρ-plane, half-kept, effective, full, worked};
 ghost use Rattle.section.specs.Figures.{figures, allowed};
 ghost use Rattle.section.specs.Forms.{LinesAre, workOf, figuresOf};
-ghost use Rattle.section.specs.Room.{Fine, WebKeptRoom, EffectiveRoom, FullRoom, SheetRoom, hp-of, effective-of, full-of};
+ghost use Rattle.section.specs.Parts.{Fine, hp-of, effective-of, full-of};
+ghost use Rattle.section.specs.Room.{WebKeptRoom, EffectiveRoom, FullRoom, SheetRoom};
 
 // he = 0.5 * rho * hp of the web.
 fn web_kept(n: u64, t: Core, fyb: u64, hp: Pair) -> Pair

@@ -1,5 +1,5 @@
 // The stiffener of a flange: what counts of it, and its stiffness.
-// (Document 01, "Stiffener of each flange".)
+// (docs/WORKING.md, 8 to 10.)
 use crate::Core;
 use crate::Stiffener;
 use crate::widths;

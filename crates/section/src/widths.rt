@@ -1,5 +1,5 @@
 // Mid-line lengths, slenderness, and the part of a width that counts.
-// (Document 01, "Widths and slenderness".)
+// (docs/WORKING.md, 4 to 7.)
 use crate::Core;
 use crate::Nominal;
 use pair::Pair;
@@ -10,7 +10,8 @@ ghost use mathlib.Core.Bool.{true};
 ghost use Rattle.pair.specs.Fits.{timesRatioFits};
 ghost use Rattle.pair.specs.declared.Pair.{Pair};
 ghost use Rattle.section.specs.Working.{S, constant, _⊗_, _⊘_, mid-line, lip-line, u², half-kept, mm, whole};
-ghost use Rattle.section.specs.Room.{Fine, MidRoom, LipRoom, SlenderRoom, HalfRoom};
+ghost use Rattle.section.specs.Parts.{Fine};
+ghost use Rattle.section.specs.Room.{MidRoom, LipRoom, SlenderRoom, HalfRoom};
 
 // a / b times p, the constant first as the paper writes it.
 pub fn constant_times(n: u64, a: u64, b: u64, p: Pair) -> Pair

@@ -6,7 +6,7 @@ use Rattle.pair.specs.declared.Pair.{Pair}
 use Rattle.section.specs.declared.Flange.{Flange}
 use Rattle.section.specs.declared.Round.{Round}
 use Rattle.section.specs.Working.{whole, stiffener-of, factors, round, rounds}
-use Rattle.section.specs.Room.{Fine}
+use Rattle.section.specs.Parts.{Fine}
 
 pub fine : Fine 1
 fine = record { some = lit< tt; most = lit≤ tt }

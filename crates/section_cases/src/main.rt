@@ -14,7 +14,7 @@ use section::Core;
 use section::Nominal;
 use section::Sheet;
 use section::sections;
-ghost use Rattle.section.specs.Sheets.{Sound};
+ghost use Rattle.section.specs.Sound.{Sound};
 
 // A line as far as it is read.
 struct Line {

@@ -20,10 +20,11 @@ ghost use mathlib.Core.Path.{_≡_};
 ghost use mathlib.Core.Bool.{true};
 ghost use Rattle.pair.specs.Pairs.{over, root};
 ghost use Rattle.pair.specs.Fits.{overFits};
-ghost use Rattle.section.specs.Sheets.{Sound};
+ghost use Rattle.section.specs.Sound.{Sound};
 ghost use Rattle.section.specs.Working.{S, mm, whole, u², ρ-plane, half-kept, rounds, effective};
 ghost use Rattle.section.specs.Forms.{LinesAre};
-ghost use Rattle.section.specs.Room.{Fine, LipRatio, StiffenerRoom, Steady, AxisRoom, SheetRoom, effective-of};
+ghost use Rattle.section.specs.Parts.{Fine, effective-of};
+ghost use Rattle.section.specs.Room.{LipRatio, StiffenerRoom, Steady, AxisRoom, SheetRoom};
 
 // Sheet B, the profile of source document 002.
 pub fn sheet_b() -> Sheet

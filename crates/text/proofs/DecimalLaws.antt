@@ -9,7 +9,7 @@ use borrow.Author.Tests.{lt-ltb, le-ltb, ltb-true, ltb-false}
 use lib.Dec.{ltb}
 use lib.IntN.{ℤ, pos, negsuc, negℤ, natAbs}
 use lib.ListN.{length, drop, set}
-use Rattle.pair.specs.SignedPairs.{integer}
+use Rattle.pair.specs.Forms.{integer}
 use Rattle.pair.specs.declared.signed.Integer.{Integer}
 use Rattle.pair.proofs.IntegerForms.{integer-size}
 use Rattle.text.specs.Decimal.{digit0, minus, digitsIn, decimal, negative, integerText}

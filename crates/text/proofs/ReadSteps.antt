@@ -11,7 +11,7 @@ use lib.Dec.{leb, eqb}
 use lib.IntN.{ℤ, pos, negℤ, natAbs}
 use lib.ListN.{length, getD, drop, set, replicate, length-append, length-map, drop-of-length-le}
 use lib.Seq.{getD-drop, drop-drop, drop-cons}
-use Rattle.pair.specs.SignedPairs.{integer, plain}
+use Rattle.pair.specs.Forms.{integer, plain}
 use Rattle.pair.specs.declared.signed.Integer.{Integer}
 use Rattle.pair.proofs.IntegerForms.{above-is, plain-is}
 use Rattle.pair.proofs.Tests.{and-left, and-right}

@@ -9,7 +9,7 @@ use native.Mathlib.Omega.{arith}
 use lib.IntN.{ℤ, pos, negsuc, natAbs}
 use lib.ListN.{length, getD, take, drop, length-append, length-map, take-append-drop}
 use lib.Seq.{take-append-add, take-append-seam}
-use Rattle.pair.specs.SignedPairs.{plain}
+use Rattle.pair.specs.Forms.{plain}
 use Rattle.pair.proofs.IntegerForms.{plain-means}
 use Rattle.text.specs.Keys.{Kind, letter, number, shift, sheetLines, certificateLines, firstShift, keys, keyOf, kindOf}
 use Rattle.text.specs.Decimal.{integerText}

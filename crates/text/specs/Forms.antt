@@ -4,7 +4,7 @@ use mathlib.Core.List.{List, [], _++_, map}
 use mathlib.Core.Path.{_≡_}
 use lib.ListN.{length, drop, replicate}
 use lib.IntN.{ℤ, pos}
-use Rattle.pair.specs.SignedPairs.{integer, plain}
+use Rattle.pair.specs.Forms.{integer, plain}
 use Rattle.pair.specs.declared.signed.Integer.{Integer}
 use Rattle.text.specs.Keys.{certificateLines}
 use Rattle.text.specs.Reading.{Front, got, bad, Reading, values, badLine}

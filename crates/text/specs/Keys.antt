@@ -1,4 +1,4 @@
--- The lines of a sheet and of a certificate: their keys, how many there are, and what each may hold (document 01, "Sheet and certificate").
+-- The lines of a sheet and of a certificate: their keys, how many there are, and what each may hold (docs/WORKING.md, 14).
 use Prim.Native.Nat.{ℕ}
 use Prim.Native.Char.{code}
 use Prim.Native.String.{String}

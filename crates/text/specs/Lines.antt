@@ -1,4 +1,4 @@
--- Lines key=value, each ended by a newline, and the values that can stand in them (document 01, "Sheet and certificate").
+-- Lines key=value, each ended by a newline, and the values that can stand in them (docs/WORKING.md, 14).
 use Prim.Native.Nat.{ℕ, zero, suc, _+_, _-_, _^_, _<_}
 use Prim.Native.Char.{code}
 use mathlib.Core.Bool.{cond}

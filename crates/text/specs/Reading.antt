@@ -1,4 +1,4 @@
--- What reading lines means: the values, or the first bad line (document 01, "The questions", the first).
+-- What reading lines means: the values, or the first bad line (docs/WORKING.md, 15, the first question).
 use Prim.Native.Nat.{ℕ, zero, suc, _+_, _-_, _*_}
 use mathlib.Core.Bool.{Bool, true, false, cond, _&&_}
 use mathlib.Core.List.{List, [], _∷_}

@@ -3,7 +3,7 @@ use pair::signed::Integer;
 ghost use mathlib.Core.Path.{_≡_};
 ghost use Prim.Native.Nat.{_≤_};
 ghost use lib.ListN.{length};
-ghost use Rattle.pair.specs.SignedPairs.{integer};
+ghost use Rattle.pair.specs.Forms.{integer};
 ghost use Rattle.text.specs.Decimal.{decimal, negative, integerText};
 ghost use Rattle.text.specs.Lines.{over};
 

@@ -10,7 +10,7 @@ use pair::signed::Integer;
 ghost use mathlib.Core.Path.{_≡_};
 ghost use Prim.Native.Nat.{_*_, _≤_, _<_};
 ghost use lib.ListN.{length, take};
-ghost use Rattle.pair.specs.SignedPairs.{integer};
+ghost use Rattle.pair.specs.Forms.{integer};
 ghost use Rattle.text.specs.Keys.{keyOf, kindOf, certificateLines};
 ghost use Rattle.text.specs.Lines.{over, valueText, lineText, linesBetween};
 ghost use Rattle.text.specs.Forms.{integers};

@@ -253,7 +253,7 @@ fn jump_in_earlier_round(chance: &mut Chance) -> Option<Sheet> {
 }
 
 /// The least allow that question 11 lets pass.
-pub(crate) fn needed_allowance(sheet: &Sheet) -> u64 {
+pub fn needed_allowance(sheet: &Sheet) -> u64 {
     let working = worked(sheet);
     let area = Figures::of(sheet, &working).area;
     let upper = divide_up(working.area.hi * 100, working.scale.units());

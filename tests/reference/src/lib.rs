@@ -12,6 +12,11 @@ pub mod working;
 /// Demand 3.
 pub mod finer;
 
+// Sheet B worked step by step, from the formulas' text.
+pub mod formula;
+pub mod steps;
+pub mod worked_example;
+
 // Sheets and texts to try, with fixed or given seeds.
 pub mod cases;
 pub mod chance;

@@ -15,8 +15,8 @@ pub fn slenderness_squared(w: Pair, t: Pair, fyb: Pair, k: Pair) -> Pair {
 /// The rule for ρ of one sort of plane, in thousandths.
 #[derive(Clone, Copy)]
 pub struct WidthRule {
-    full_to: i128,
-    less: i128,
+    pub full_to: i128,
+    pub less: i128,
 }
 
 /// Web and flanges: 1 for u ≤ 0.673, else (u − 0.22)/u².

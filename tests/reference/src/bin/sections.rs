@@ -1,12 +1,14 @@
 //! Writes test sections and their expected results, sheets at the edges of the
 //! questions, every intermediate pair of sheet B, or sheets near the thresholds; or
-//! prints how many of the sections are of each kind.
+//! prints how many of the sections are of each kind, or section 18 of
+//! docs/WORKING.md, sheet B worked step by step.
 //!
 //! sections INPUTS RESULTS
 //! sections --edges INPUTS RESULTS
 //! sections --intermediate FILE
 //! sections --thresholds FILE
 //! sections --kinds
+//! sections --worked
 
 use reference::chance::{Chance, SEED};
 use reference::edges::edges;
@@ -15,8 +17,10 @@ use reference::kinds::{count, KINDS};
 use reference::named::SHEET_B;
 use reference::sheet::{ask_before_working, Figures, Sheet};
 use reference::thresholds::{search, KEPT, THRESHOLDS};
+use reference::worked_example::worked_example;
 use reference::working::{worked, Working};
 use std::fmt::Display;
+use std::io::Write;
 use std::process::ExitCode;
 use std::{env, fs, io};
 
@@ -30,10 +34,11 @@ fn main() -> ExitCode {
             print_kinds();
             Ok(())
         }
+        ["--worked"] => io::stdout().write_all(worked_example().as_bytes()),
         [inputs, results] => write_sections(inputs, results),
         _ => {
             eprintln!(
-                "sections [--edges] INPUTS RESULTS | --intermediate|--thresholds FILE | --kinds"
+                "sections [--edges] INPUTS RESULTS | --intermediate|--thresholds FILE | --kinds | --worked"
             );
             return ExitCode::FAILURE;
         }

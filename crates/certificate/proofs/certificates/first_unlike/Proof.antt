@@ -8,7 +8,7 @@ use lib.ListN.{length, drop, length-map}
 use borrow.Author.Tests.{not-true, not-false}
 use borrow.Author.Needs.{needs}
 use native.Mathlib.Omega.{arith}
-use Rattle.pair.specs.SignedPairs.{integer}
+use Rattle.pair.specs.Forms.{integer}
 use Rattle.pair.specs.declared.signed.Integer.{Integer}
 use Rattle.text.specs.Keys.{sheetLines, certificateLines}
 use Rattle.text.specs.Forms.{integers}

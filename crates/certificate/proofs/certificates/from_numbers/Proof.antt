@@ -2,7 +2,8 @@
 use mathlib.Core.Path.{ap, _∙_}
 use lib.ListN.{length}
 use Rattle.section.specs.declared.Sheet.{Sheet}
-use Rattle.certificate.specs.Outcome.{outcomeOf, answerOf, bufferAfter}
+use Rattle.certificate.specs.Outcome.{outcomeOf}
+use Rattle.certificate.specs.Answers.{answerOf, bufferAfter}
 use borrow.Author.Needs.{needs}
 use Rattle.certificate.proofs.certificates.from_numbers.Statement.{statement}
 use Rattle.certificate.proofs.certificates.from_numbers.Tie as tie

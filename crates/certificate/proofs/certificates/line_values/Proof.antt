@@ -1,7 +1,7 @@
 -- `certificate::certificates::line_values` meets its contract.
 use borrow.Author.Needs.{needs}
 use Rattle.section.proofs.PrintedFigures.{area-of-form, axial-of-form, chi1-of-form, chi2-of-form, shiftlo-of-form, shifthi-of-form}
-use Rattle.certificate.specs.Questions.{values}
+use Rattle.certificate.specs.Certificates.{values}
 use Rattle.certificate.specs.Certificates.{sheetValues, figureValues, certificateValues}
 use Rattle.certificate.proofs.certificates.line_values.Statement.{statement}
 use Rattle.certificate.proofs.certificates.line_values.Tie as tie

@@ -6,7 +6,7 @@ use mathlib.Core.Path.{_≡_, ap, _∙_}
 use mathlib.Core.List.{List}
 use native.Mathlib.Omega.{arith}
 use lib.ListN.{length, length-map}
-use Rattle.pair.specs.SignedPairs.{integer}
+use Rattle.pair.specs.Forms.{integer}
 use Rattle.pair.specs.declared.signed.Integer.{Integer}
 use Rattle.text.specs.Keys.{certificateLines}
 use Rattle.text.specs.Lines.{over, linesText, linesBetween}

@@ -7,7 +7,8 @@ use Rattle.text.specs.Keys.{sheetLines}
 use Rattle.text.specs.Forms.{integers}
 use Rattle.text.proofs.Theorems.{verdict-right, verdict-bad}
 use Rattle.certificate.specs.Certificates.{sheetShown}
-use Rattle.certificate.specs.Outcome.{Outcome, outcomeOf, answerOf, bufferAfter}
+use Rattle.certificate.specs.Outcome.{outcomeOf}
+use Rattle.certificate.specs.Answers.{Outcome, answerOf, bufferAfter}
 use Rattle.certificate.proofs.Shown.{front-shown, integers-front}
 use Rattle.certificate.proofs.OutcomeSteps.{bad-sheet, right-sheet, answers-refusal}
 use Rattle.certificate.proofs.certificates.write.Statement.{statement}

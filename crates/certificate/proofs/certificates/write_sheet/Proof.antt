@@ -9,7 +9,8 @@ use Rattle.text.specs.Keys.{certificateLines}
 use Rattle.text.specs.Lines.{linesText, longest}
 use Rattle.certificate.specs.Questions.{verdict}
 use Rattle.certificate.specs.Certificates.{certificateValues}
-use Rattle.certificate.specs.Outcome.{Outcome, fitted, answerOf, bufferAfter}
+use Rattle.certificate.specs.Outcome.{fitted}
+use Rattle.certificate.specs.Answers.{Outcome, answerOf, bufferAfter}
 use Rattle.certificate.proofs.Shown.{integers-of}
 use Rattle.certificate.proofs.OutcomeSteps.{judged-refusal, judged-figures, refused-by-verdict, room-asked, accepted-length, answers-refusal}
 use Rattle.certificate.proofs.certificates.write_sheet.Statement.{statement}

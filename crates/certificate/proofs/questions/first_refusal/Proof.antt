@@ -1,9 +1,8 @@
 -- `certificate::questions::first_refusal` meets its contract.
 use mathlib.Core.Path.{sym, _∙_}
-use Rattle.certificate.specs.Questions.{values, question2}
-use Rattle.certificate.proofs.FirstNos.{all-when-met}
-use Rattle.certificate.proofs.Ties.{tied2}
-use Rattle.certificate.proofs.Steps.{refused-second, passed-second}
+use Rattle.certificate.specs.Questions.{question2}
+use Rattle.certificate.specs.Certificates.{values}
+use Rattle.certificate.proofs.Steps.{refused-second, passed-second, in-range}
 use borrow.Author.Needs.{needs}
 use Rattle.certificate.proofs.questions.first_refusal.Statement.{statement}
 use Rattle.certificate.proofs.questions.first_refusal.Tie as tie
@@ -21,7 +20,7 @@ thickness-requires : tie.Need-thickness-requires
 unfolding question2 values
 thickness-requires c κs =
     let q = c .before .before .before .before .before .args .q in
-    tied2 q .0 (all-when-met (question2 q) (sym (c .before .before .range .ensures) ∙ c .enum-told .given .1))
+    in-range q (sym (c .before .before .range .ensures) ∙ c .enum-told .given .1)
 
 returns : tie.Need-returns
 unfolding question2 values

@@ -1,7 +1,8 @@
 -- `pair::signed::greatest_product` meets its contract.
 use borrow.Author.Needs.{needs}
 use mathlib.Core.Path.{ap}
-use Rattle.pair.specs.SignedPairs.{meaning, plain, signedTimes}
+use Rattle.pair.specs.SignedPairs.{signedTimes}
+use Rattle.pair.specs.Forms.{meaning, plain}
 use Rattle.pair.proofs.SignedBounds.{TimesRoom, times-room}
 use Rattle.pair.proofs.IntegerForms.{plain-means, low-reach, high-reach}
 use Rattle.pair.proofs.SignedForms.{times-word, ceil-product}

@@ -8,7 +8,8 @@ use Rattle.text.specs.Keys.{certificateLines}
 use Rattle.text.specs.Lines.{over, longest}
 use Rattle.text.proofs.Theorems.{longest-certificate}
 use Rattle.certificate.specs.declared.Answer.{Answer}
-use Rattle.certificate.specs.Outcome.{Outcome, outcome, answerOf, bufferAfter}
+use Rattle.certificate.specs.Outcome.{outcome}
+use Rattle.certificate.specs.Answers.{Outcome, answerOf, bufferAfter}
 use Rattle.report.specs.Printed.{refusalLines, certifyPrints}
 use Rattle.report.proofs.Answers.{certificate-printed, refusal-printed}
 use Rattle.report.proofs.printing.certify_prints.Statement.{statement}

@@ -2,7 +2,7 @@
 use mathlib.Core.Path.{ap, _∙_}
 use Rattle.pair.proofs.SignedForms.{plain-pair-means}
 use Rattle.pair.proofs.SignedProducts.{signed-times-comm}
-use Rattle.pair.specs.SignedPairs.{plainPair}
+use Rattle.pair.specs.Forms.{plainPair}
 use Rattle.section.specs.Working.{lip-moment}
 use borrow.Author.Needs.{needs}
 use Rattle.section.proofs.moments.lip_moment.Statement.{statement}

@@ -3,7 +3,8 @@ use mathlib.Core.Path.{ap, _∙_}
 use Prim.Native.Nat.{_*_, _/_}
 use lib.IntN.{pos, _*ℤ_}
 use Rattle.pair.specs.Integers.{floorOver, ceilOver}
-use Rattle.pair.specs.SignedPairs.{SignedPair, plain}
+use Rattle.pair.specs.SignedPairs.{SignedPair}
+use Rattle.pair.specs.Forms.{plain}
 use Rattle.section.specs.declared.Work.{Work}
 use Rattle.section.specs.Working.{S, worked}
 use Rattle.section.specs.Figures.{printed, figures}

@@ -1,7 +1,8 @@
 -- `section::sections::worked_of` meets its contract.
 use mathlib.Core.Path.{ap, _∙_}
 use Rattle.pair.specs.Pairs.{times}
-use Rattle.pair.specs.SignedPairs.{plainPair, signedMinus}
+use Rattle.pair.specs.SignedPairs.{signedMinus}
+use Rattle.pair.specs.Forms.{plainPair}
 use Rattle.pair.specs.declared.Pair.{Pair}
 use Rattle.pair.proofs.SignedForms.{plain-pair-means, pair-means}
 use Rattle.section.specs.declared.Kept.{Kept}

@@ -1,7 +1,7 @@
 -- `writing::keyed_length` meets its contract.
 use borrow.Author.Needs.{needs}
 use native.Mathlib.Omega.{arith}
-use Rattle.pair.specs.SignedPairs.{integer}
+use Rattle.pair.specs.Forms.{integer}
 use Rattle.text.proofs.LineLaws.{line-size}
 use Rattle.text.proofs.writing.keyed_length.Statement.{statement}
 use Rattle.text.proofs.writing.keyed_length.Tie as tie

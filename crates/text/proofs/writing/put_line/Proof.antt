@@ -7,7 +7,7 @@ use native.Mathlib.Omega.{arith}
 use borrow.Rule.Slice.PartMut.{putMid}
 use lib.ListN.{length, take, length-set, length-append}
 use lib.Seq.{length-take-le}
-use Rattle.pair.specs.SignedPairs.{integer}
+use Rattle.pair.specs.Forms.{integer}
 use Rattle.text.specs.Keys.{keyOf, kindOf}
 use Rattle.text.specs.Lines.{valueText, over}
 use Rattle.text.proofs.LentParts.{copied, length-over, written-length, part-room, part-written}

@@ -5,7 +5,7 @@ use mathlib.Core.List.{List, [], _∷_}
 use mathlib.Core.Path.{_≡_, sym, ap, _∙_}
 use native.Mathlib.Omega.{arith}
 use lib.ListN.{length}
-use Rattle.pair.specs.SignedPairs.{integer}
+use Rattle.pair.specs.Forms.{integer}
 use Rattle.pair.proofs.IntegerForms.{integer-size}
 use Rattle.text.specs.Keys.{kindOf}
 use Rattle.text.specs.Lines.{letterC, letterZ, valueText, over}

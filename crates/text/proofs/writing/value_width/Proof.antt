@@ -3,7 +3,7 @@ use borrow.Author.Needs.{needs}
 use mathlib.Core.Path.{sym, ap, _∙_}
 use native.Mathlib.Omega.{arith}
 use lib.ListN.{length}
-use Rattle.pair.specs.SignedPairs.{integer}
+use Rattle.pair.specs.Forms.{integer}
 use Rattle.text.proofs.LineLaws.{letter-value, other-value}
 use Rattle.text.proofs.writing.value_width.Statement.{statement}
 use Rattle.text.proofs.writing.value_width.Tie as tie

@@ -1,6 +1,6 @@
 -- `pair::signed::Integer::ceil_by` meets its contract.
 use borrow.Author.Needs.{needs}
-use Rattle.pair.specs.SignedPairs.{integer, plain}
+use Rattle.pair.specs.Forms.{integer, plain}
 use Rattle.pair.proofs.IntegerForms.{floor-word, ceil-below, ceil-above}
 use Rattle.pair.proofs.signed.Integer.ceil_by.Statement.{statement}
 use Rattle.pair.proofs.signed.Integer.ceil_by.Tie as tie

@@ -2,7 +2,7 @@
 use borrow.Author.Needs.{needs}
 use mathlib.Core.Path.{ap, _∙_}
 use native.Mathlib.Omega.{arith}
-use Rattle.pair.specs.SignedPairs.{integer, plain}
+use Rattle.pair.specs.Forms.{integer, plain}
 use Rattle.pair.proofs.IntegerForms.{plain-is, sub-above, sub-below}
 use Rattle.pair.proofs.signed.Integer.difference.Statement.{statement}
 use Rattle.pair.proofs.signed.Integer.difference.Tie as tie

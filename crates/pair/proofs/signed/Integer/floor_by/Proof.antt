@@ -1,6 +1,6 @@
 -- `pair::signed::Integer::floor_by` meets its contract.
 use borrow.Author.Needs.{needs}
-use Rattle.pair.specs.SignedPairs.{integer, plain}
+use Rattle.pair.specs.Forms.{integer, plain}
 use Rattle.pair.proofs.IntegerForms.{floor-word, floor-below, floor-above}
 use Rattle.pair.proofs.signed.Integer.floor_by.Statement.{statement}
 use Rattle.pair.proofs.signed.Integer.floor_by.Tie as tie

@@ -1,7 +1,7 @@
 -- `pair::signed::Integer::least` meets its contract.
 use borrow.Author.Needs.{needs}
 use mathlib.Core.Path.{sym, ap, _∙_}
-use Rattle.pair.specs.SignedPairs.{plain}
+use Rattle.pair.specs.Forms.{plain}
 use Rattle.pair.proofs.IntegerLaws.{lebℤ-true, lebℤ-false, least-first, least-second}
 use Rattle.pair.proofs.signed.Integer.least.Statement.{statement}
 use Rattle.pair.proofs.signed.Integer.least.Tie as tie

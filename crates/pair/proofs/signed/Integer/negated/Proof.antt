@@ -1,7 +1,7 @@
 -- `pair::signed::Integer::negated` meets its contract.
 use borrow.Author.Needs.{needs}
 use mathlib.Core.Path.{ap, _∙_}
-use Rattle.pair.specs.SignedPairs.{integer, plain}
+use Rattle.pair.specs.Forms.{integer, plain}
 use Rattle.pair.proofs.IntegerForms.{not-below}
 use Rattle.pair.proofs.signed.Integer.negated.Statement.{statement}
 use Rattle.pair.proofs.signed.Integer.negated.Tie as tie

@@ -1,7 +1,7 @@
 -- `pair::signed::Integer::plus` meets its contract.
 use borrow.Author.Needs.{needs}
 use mathlib.Core.Path.{ap, _∙_}
-use Rattle.pair.specs.SignedPairs.{integer, plain}
+use Rattle.pair.specs.Forms.{integer, plain}
 use Rattle.pair.proofs.IntegerForms.{below-is, above-is, plus-below, pos-less, neg-more}
 use Rattle.pair.proofs.signed.Integer.plus.Statement.{statement}
 use Rattle.pair.proofs.signed.Integer.plus.Tie as tie

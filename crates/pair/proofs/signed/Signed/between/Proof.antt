@@ -1,6 +1,7 @@
 -- `pair::signed::Signed::between` meets its contract.
 use borrow.Author.Needs.{needs}
-use Rattle.pair.specs.SignedPairs.{plainPair, difference}
+use Rattle.pair.specs.SignedPairs.{difference}
+use Rattle.pair.specs.Forms.{plainPair}
 use Rattle.pair.proofs.signed.Signed.between.Statement.{statement}
 use Rattle.pair.proofs.signed.Signed.between.Tie as tie
 

@@ -3,7 +3,8 @@ use mathlib.Core.Path.{ap, _∙_}
 use native.Mathlib.Omega.{arith}
 use lib.IntN.{ℤ}
 use Rattle.pair.specs.Integers.{floorOver, ceilOver}
-use Rattle.pair.specs.SignedPairs.{integer, plain, meaning, plainPair, coarser}
+use Rattle.pair.specs.SignedPairs.{coarser}
+use Rattle.pair.specs.Forms.{integer, plain, meaning, plainPair}
 use Rattle.pair.proofs.IntegerLaws.{scaled-one}
 use Rattle.pair.proofs.SignedForms.{unit-word}
 use Rattle.pair.proofs.signed.Signed.coarser.Statement.{statement}

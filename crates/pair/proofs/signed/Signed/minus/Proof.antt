@@ -2,7 +2,8 @@
 use borrow.Author.Needs.{needs}
 use mathlib.Core.Path.{ap, _∙_}
 use lib.IntN.{ℤ, _+ℤ_}
-use Rattle.pair.specs.SignedPairs.{integer, plain, meaning, plainPair, signedMinus}
+use Rattle.pair.specs.SignedPairs.{signedMinus}
+use Rattle.pair.specs.Forms.{integer, plain, meaning, plainPair}
 use Rattle.pair.proofs.SignedBounds.{PlusRoom, plus-room}
 use Rattle.pair.proofs.IntegerForms.{means, negated-size, low-reach, high-reach}
 use Rattle.pair.proofs.SignedForms.{plus-word}

@@ -1,6 +1,7 @@
 -- `pair::signed::Signed::of` meets its contract.
 use mathlib.Core.Path.{refl}
-use Rattle.pair.specs.SignedPairs.{plain, plainPair, signed}
+use Rattle.pair.specs.SignedPairs.{signed}
+use Rattle.pair.specs.Forms.{plain, plainPair}
 use Rattle.pair.proofs.signed.Signed.of.Statement.{statement}
 use Rattle.pair.proofs.signed.Signed.of.Tie as tie
 

@@ -2,7 +2,7 @@
 use borrow.Author.Needs.{needs}
 use mathlib.Core.Path.{ap, _∙_}
 use native.Mathlib.Nat.{le-refl}
-use Rattle.pair.specs.SignedPairs.{meaning, plain, plainPair}
+use Rattle.pair.specs.Forms.{meaning, plain, plainPair}
 use Rattle.pair.proofs.SignedBounds.{OverRoom, over-room}
 use Rattle.pair.proofs.IntegerForms.{low-reach, high-reach}
 use Rattle.pair.proofs.SignedForms.{over-word, low-over, high-over, picked-from}

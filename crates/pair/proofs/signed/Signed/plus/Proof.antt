@@ -1,5 +1,6 @@
 -- `pair::signed::Signed::plus` meets its contract.
-use Rattle.pair.specs.SignedPairs.{meaning, plainPair, signedPlus}
+use Rattle.pair.specs.SignedPairs.{signedPlus}
+use Rattle.pair.specs.Forms.{meaning, plainPair}
 use Rattle.pair.proofs.SignedBounds.{PlusRoom, plus-room}
 use Rattle.pair.proofs.IntegerForms.{low-reach, high-reach}
 use Rattle.pair.proofs.SignedForms.{plus-word}

@@ -1,7 +1,8 @@
 -- `pair::signed::Signed::times` meets its contract.
 use borrow.Author.Needs.{needs}
 use mathlib.Core.Path.{ap, _∙_}
-use Rattle.pair.specs.SignedPairs.{meaning, plain, plainPair, signed}
+use Rattle.pair.specs.SignedPairs.{signed}
+use Rattle.pair.specs.Forms.{meaning, plain, plainPair}
 use Rattle.pair.proofs.SignedBounds.{TimesRoom, times-room}
 use Rattle.pair.proofs.IntegerForms.{low-reach, high-reach}
 use Rattle.pair.proofs.SignedForms.{times-word, low-times, high-times, picked-within, pair-low, pair-high}

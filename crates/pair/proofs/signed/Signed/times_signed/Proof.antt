@@ -1,6 +1,6 @@
 -- `pair::signed::Signed::times_signed` meets its contract.
 use borrow.Author.Needs.{needs}
-use Rattle.pair.specs.SignedPairs.{plainPair}
+use Rattle.pair.specs.Forms.{plainPair}
 use Rattle.pair.proofs.signed.Signed.times_signed.Statement.{statement}
 use Rattle.pair.proofs.signed.Signed.times_signed.Tie as tie
 
