@@ -1,6 +1,6 @@
 #!/usr/bin/env bash
 # Passes all tests. The last line is rt's: 'N passed, 0 failed'.
-set -eu
+set -euo pipefail
 cd "$(dirname "$0")/.."
 
 # The toolchain that the proofs are made with.
@@ -22,9 +22,23 @@ tests/certificate_cases.sh
 tests/worked_example.sh
 tests/pictures.sh
 
-# The header is C by itself, and the archive behind it answers as the reference does, also to the
-# programs of examples/. Here the tests from outside are the quick ones.
-cc -std=c99 -pedantic -Wall -Wextra -Werror -fsyntax-only include/certificate.h
+# The header is C by itself (and C++, where that can be tried).
+strict="-pedantic -Wall -Wextra -Werror -Iinclude -fsyntax-only"
+# shellcheck disable=SC2086
+echo '#include "honemagenta.h"' | cc -x c -std=c99 $strict -
+if command -v c++ >/dev/null; then
+    # shellcheck disable=SC2086
+    echo '#include "honemagenta.h"' | c++ -x c++ $strict -
+fi
+
+# Every crate is proved from nothing, the must-fail edits are tried and the programs run. What comes behind is
+# built on what is proved here.
+closing=$(mktemp)
+trap 'rm -f "$closing"' EXIT
+rt ci | tee "$closing"
+
+# The archive answers as the reference does, also to the programs of examples/. Here the tests from outside are
+# the quick ones.
 tests/outside/run.sh
 tests/examples.sh
 
@@ -34,4 +48,5 @@ tests/programs.sh
 # The example's loop over many sheets keeps certificates alone, and returns a status.
 tests/certify_all.sh
 
-rt ci
+# All has passed: rt's last line again.
+tail -n 1 "$closing"

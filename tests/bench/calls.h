@@ -1,7 +1,8 @@
 // The three calls, in each version that is measured, and the ranges of the twelve numbers.
 // (Document 01, "Sheet and certificate".)
-#include "certificate.h"
+#include "honemagenta.h"
 
+typedef hm_answer Answer;
 typedef Answer Write(const uint8_t *sheet, size_t sheet_length, uint8_t *buffer, size_t room);
 typedef Answer Check(const uint8_t *certificate, size_t length);
 typedef Answer FromNumbers(uint64_t form, uint64_t h, uint64_t b1, uint64_t b2, uint64_t c, uint64_t r, uint64_t tnom,

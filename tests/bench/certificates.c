@@ -1,4 +1,4 @@
-// Times certificates by the archive libcertificate.a beside plain C (plain.c) and the reference
+// Times certificates by the archive libhonemagenta.a beside plain C (plain.c) and the reference
 // (tests/reference), in one run with their turns interleaved. Before that all of them must give the same
 // answers and the same buffers, byte by byte: the first difference stops the run.
 #include "calls.h"
@@ -6,8 +6,8 @@
 #include <stdio.h>
 #include <string.h>
 
-// ROOM takes every certificate, as README.md tells callers to lend.
-enum { PLACES = 5, SHEETS = 400, ROOM = CERTIFICATE_LONGEST, TURNS = 41 };
+// ROOM takes every certificate, as README.md asks callers to pass.
+enum { PLACES = 5, SHEETS = 400, ROOM = HM_CERTIFICATE_LONGEST, TURNS = 41 };
 
 // ---- versions: the archive, and plain C with each way to take roots, at several places of the program
 
@@ -26,14 +26,14 @@ typedef struct {
 #define DECLARE_PLACES(NAME) DECLARE(NAME, _0) DECLARE(NAME, _1) DECLARE(NAME, _2) DECLARE(NAME, _3) DECLARE(NAME, _4)
 #define PLACED(NAME) ENTRY(NAME, _0), ENTRY(NAME, _1), ENTRY(NAME, _2), ENTRY(NAME, _3), ENTRY(NAME, _4)
 
-DECLARE_PLACES(certificate)
+DECLARE_PLACES(honemagenta)
 DECLARE_PLACES(newton)
 DECLARE_PLACES(bits)
 DECLARE_PLACES(doubles)
 DECLARE(reference, )
 
 static const Version versions[] = {
-    PLACED(certificate), PLACED(newton), PLACED(bits), PLACED(doubles), ENTRY(reference, ),
+    PLACED(honemagenta), PLACED(newton), PLACED(bits), PLACED(doubles), ENTRY(reference, ),
 };
 
 enum { OURS, NEWTON, BITS, DOUBLES, REFERENCE, GROUPS, VERSIONS = REFERENCE * PLACES + 1 };

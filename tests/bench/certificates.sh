@@ -1,5 +1,5 @@
 #!/usr/bin/env bash
-# Proves crate certificate, builds it as a static library, and times it beside plain C and the reference.
+# Proves crate honemagenta, builds it as a static library, and times it beside plain C and the reference.
 # The archive and plain C (with the division that it calls) stand at five places of the program each,
 # since where code lies changes how long it takes.
 set -euo pipefail
@@ -9,13 +9,13 @@ made=target/bench
 mkdir -p $made
 libgcc=$(cc -print-libgcc-file-name)
 
-rt staticlib certificate | tail -1
+rt staticlib honemagenta | tail -1
 cargo build --release --offline -q --manifest-path $here/reference/Cargo.toml --target-dir $made/reference
 compile="cc -O2 -Wall -Wextra -Werror -Iinclude"
 $compile -c -o $made/newton.o $here/plain.c
 $compile -DROOTS_BY_BITS -c -o $made/bits.o $here/plain.c
 $compile -DROOTS_OF_DOUBLES -c -o $made/doubles.o $here/plain.c
-(cd $made && ar x ../staticlib/libcertificate.a certificate.o)
+(cd $made && ar x ../staticlib/libhonemagenta.a honemagenta.o)
 
 # An object of so many bytes, which pushes on what is linked behind it.
 padding() {
@@ -39,7 +39,7 @@ placed() {
 
 objects=
 for place in 0 1 2 3 4; do
-    placed certificate certificate "$place"
+    placed honemagenta hm_certificate "$place"
     for roots in newton bits doubles; do
         placed $roots plain "$place"
     done

@@ -282,7 +282,7 @@ static Answer put(const Sheet *sheet, const Figures *f, uint8_t *buffer, size_t 
         (i64)sheet->tnom, (i64)sheet->t, (i64)sheet->fyb, (i64)sheet->gm0, (i64)sheet->rounds, (i64)sheet->allow,
         (i64)f->area,     (i64)f->axial, (i64)f->chi1,    (i64)f->chi2,    f->shiftlo,         f->shifthi,
     };
-    char text[CERTIFICATE_LONGEST], *at = text;
+    char text[HM_CERTIFICATE_LONGEST], *at = text;
     for (int i = 0; i < LINES; i++) {
         at = put_text(at, KEYS[i]);
         if (i == 0) {

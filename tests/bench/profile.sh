@@ -6,10 +6,10 @@ cd "$(dirname "$0")/../.."
 made=target/bench
 sheets=400
 passes=20
-version=certificate_0
+version=honemagenta_0
 tests/bench/certificates.sh $version 1 | tail -1
 
-valgrind -q --tool=callgrind --callgrind-out-file=$made/callgrind.out --toggle-collect=certificate_from_numbers_0 \
+valgrind -q --tool=callgrind --callgrind-out-file=$made/callgrind.out --toggle-collect=honemagenta_from_numbers_0 \
     $made/certificates $version $passes >/dev/null
 echo "instructions for one certificate, and their share:"
 callgrind_annotate --threshold=100 $made/callgrind.out | awk -v calls=$((sheets * passes)) '

@@ -1,4 +1,4 @@
-//! Links the archives that `rt staticlib certificate` and `rt staticlib pair_c`
+//! Links the archives that `rt staticlib honemagenta` and `rt staticlib pair_c`
 //! write to target/staticlib.
 
 use std::path::Path;
@@ -6,7 +6,7 @@ use std::path::Path;
 fn main() {
     let folder = Path::new(env!("CARGO_MANIFEST_DIR")).join("../../target/staticlib");
     println!("cargo:rustc-link-search=native={}", folder.display());
-    for name in ["certificate", "pair_c"] {
+    for name in ["honemagenta", "pair_c"] {
         let archive = folder.join(format!("lib{name}.a"));
         assert!(
             archive.exists(),

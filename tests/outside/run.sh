@@ -1,10 +1,10 @@
 #!/bin/sh
-# Proves crates certificate and pair_c, builds them as static libraries and calls both from outside, in
+# Proves crates honemagenta and pair_c, builds them as static libraries and calls both from outside, in
 # some seconds; with --long, in some minutes, on 200,000 of each sort of random case; with --seed NUMBER,
 # on other random cases.
 set -eu
 cd "$(dirname "$0")/../.."
-rt staticlib certificate
+rt staticlib honemagenta
 rt staticlib pair_c
 cargo test --release --offline -q --manifest-path tests/outside/Cargo.toml
 cargo run --release --offline -q --manifest-path tests/outside/Cargo.toml -- "$@"

@@ -1,7 +1,4 @@
-pub mod Tests
-pub mod Order
 pub mod Ranges
-pub mod FirstNos
 pub mod Shown
 pub mod Ties
 pub mod Theorems

@@ -20,10 +20,12 @@ use Rattle.text.specs.Lines.{letterOf, valueText, lineText, linesFrom, longestL
 use Rattle.text.specs.Reading.{ended, readDigits, readNumber, readShift, readLetter, readValue, begins, readLine, prepend, readEnd, andThen, readFrom}
 use Rattle.certificate.specs.Questions.{ranges, ranged, question2, question3, question4, question5, question6, question7, question8, question9}
 use Rattle.certificate.specs.Certificates.{values}
-use Rattle.certificate.specs.Questions.{question10, question11, onNumbers, questions, firstOf, firstIn}
+use Rattle.questions.specs.Asking.{firstOf, firstIn}
+use Rattle.certificate.specs.Questions.{question10, question11, onNumbers, questions}
 use Rattle.certificate.specs.Certificates.{sheetValues, figureValues, certificateValues, certificateOf, sheetShown, figuresShown}
-use Rattle.certificate.specs.Outcome.{fitting, question12, writing, settled, outcomeOf, outcomeRead, outcome}
-use Rattle.certificate.specs.Answers.{answerOf}
+use Rattle.questions.specs.Outcomes.{fitting, settled}
+use Rattle.certificate.specs.Outcome.{question12, writing, outcomeOf, outcomeRead, outcome}
+use Rattle.questions.specs.Outcomes.{answerOf}
 use Rattle.certificate.specs.MarkedCases.{Says, Each, sheetA, sheetB, sheet11, sheet12, sheet13, figuresRead, figuresIn, figuresB, marked}
 
 between : {least x most : ℤ} → lebℤ least x ≡ true → lebℤ x most ≡ true → (least ≤ℤ x) × (x ≤ℤ most)

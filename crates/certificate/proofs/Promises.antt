@@ -18,19 +18,20 @@ use Rattle.text.specs.Lines.{linesFrom, linesText, longest, SpeltFrom, TextOf, 
 use Rattle.text.specs.Reading.{Reading, values, badLine, readLines}
 use Rattle.text.proofs.LineLaws.{lines-join}
 use Rattle.text.proofs.Theorems.{reads-values, reads-bad, cut-behind}
-use Rattle.certificate.specs.declared.Answer.{Answer}
+use Rattle.questions.specs.declared.Answer.{Answer}
 use Rattle.certificate.specs.declared.Refusal.{Refusal}
 use Rattle.certificate.specs.declared.Refusal.the-variants.{Spelling}
-use Rattle.certificate.specs.declared.Found.{Found}
-use Rattle.certificate.specs.declared.Found.the-variants.{Refused, Met}
-use Rattle.certificate.specs.Refusals.{answer, told}
-use Rattle.certificate.specs.Questions.{firstIn}
-use Rattle.certificate.specs.Reasons.{lines-on-numbers, lines-of, AllSo, Reason, Found-as, Refuses}
+use Rattle.questions.specs.Answers.{answer}
+use Rattle.certificate.specs.Refusals.{told}
+use Rattle.questions.specs.Asking.{Finding, refusal, met, firstIn}
+use Rattle.questions.specs.Reasons.{AllSo, Reason, Found-as, Refuses}
+use Rattle.certificate.specs.Reasons.{lines-on-numbers, lines-of}
 use Rattle.certificate.specs.Certificates.{sheetValues, figureValues, certificateValues, certificateOf, sheetShown, figuresShown}
-use Rattle.certificate.specs.Outcome.{writing, checking, settled, outcomeOf, outcomeRead, outcome, checkedRead, checked}
-use Rattle.certificate.specs.Answers.{refused, written, Outcome, answerOf, checkAnswer}
+use Rattle.certificate.specs.Outcome.{writing, checking, outcomeOf, outcomeRead, outcome, checkedRead, checked}
+use Rattle.questions.specs.Outcomes.{Outcome, refused, written, settled, answerOf}
+use Rattle.certificate.specs.Outcome.{checkOutcome}
 use Rattle.certificate.specs.Promises.{Question1, lines12, lines13, lines-of-writing, lines-of-checking, Written, Misspelt, NumbersUnmet, Unmet, Unlike, Issued, HoldsFinerWorkings, own-lines, WrittenAndHeld, HeldForItsSheet, FinerWorkingsHeld}
-use Rattle.certificate.proofs.FirstNos.{met-when-so, found-with-reason}
+use Rattle.questions.proofs.FirstNos.{met-when-so, found-with-reason}
 use Rattle.certificate.proofs.Ties.{writing-told, checking-told, figures-agree}
 use Rattle.certificate.proofs.Theorems.{so-of-both, so-is-allowed}
 use Rattle.certificate.proofs.Shown.{sheet-back, figures-back, sheet-count, behind-sheet, sheet-alone, values-back, split-at-sheet, sheet-spelt, certificate-text, length-most}
@@ -44,28 +45,28 @@ by-reading (badLine l) p q = q l refl
 written-not-refused : {t : List ℕ} {r : Refusal} → refused r ≡ written t → ⊥
 written-not-refused e = let z : _≡_ {A = ℕ} 0 1 = cc in omega arith
 
-met-not-refused : {r : Refusal} → Refused r ≡ Met → ⊥
+met-not-refused : {r : Refusal} → refusal r ≡ met → ⊥
 met-not-refused e = let z : _≡_ {A = ℕ} 0 1 = cc in omega arith
 
 refused-same : {r u : Refusal} → refused r ≡ refused u → r ≡ u
 refused-same e = cc
 
-found-same : {r u : Refusal} → Refused r ≡ Refused u → r ≡ u
+found-same : {r u : Refusal} → refusal r ≡ refusal u → r ≡ u
 found-same e = cc
 
-settled-written : (f : Found) (t u : List ℕ) → (settled f t ≡ written u) ↔ ((f ≡ Met) × (u ≡ t))
+settled-written : (f : Finding Refusal) (t u : List ℕ) → (settled f t ≡ written u) ↔ ((f ≡ met) × (u ≡ t))
 unfolding settled
-settled-written Met t u = (λ e. (refl, cc), λ h. cc (h .1))
-settled-written (Refused r) t u = (λ e. absurd (written-not-refused e), λ h. absurd (met-not-refused (h .0)))
+settled-written met t u = (λ e. (refl, cc), λ h. cc (h .1))
+settled-written (refusal r) t u = (λ e. absurd (written-not-refused e), λ h. absurd (met-not-refused (h .0)))
 
 -- what is answered where a refusal is found, and where none is
-found-answered : (f : Found) (t : List ℕ) (a : Answer) → Refuses (answerOf (settled f t)) a ↔ (Found-as f a × (1 ≤ a .refusal))
+found-answered : (f : Finding Refusal) (t : List ℕ) (a : Answer) → Refuses (answerOf told (settled f t)) a ↔ (Found-as told f a × (1 ≤ a .refusal))
 unfolding settled answerOf
-found-answered (Refused r) t a = (
-  λ h. (record { refusal = r; found = refl; tells = h .is }, h .number),
+found-answered (refusal r) t a = (
+  λ h. (record { what = r; found = refl; tells = h .is }, h .number),
   λ h. record { is = ap told (found-same (h .0 .found)) ∙ h .0 .tells; number = h .1 },
 )
-found-answered Met t a = (
+found-answered met t a = (
   λ h. absurd (omega (arith, h .number, ap (λ (x : Answer). x .refusal) (h .is))),
   λ h. absurd (met-not-refused (sym (h .0 .found))),
 )
@@ -88,16 +89,16 @@ module _ (q : Sheet) (room : ℕ) where
   unfolding outcomeOf
   numbers-written t =
       let s = settled-written (firstIn (writing room q)) (certificateOf q) t in
-      let met = met-when-so _ 2 (writing room q) (lines-of-writing room q) (writing-told q room) in
+      let met = met-when-so told _ 2 (writing room q) (lines-of-writing room q) (writing-told q room) in
       (λ e. let h = s .0 e in (met .0 (h .0), h .1), λ h. s .1 (met .1 (h .0), h .1))
 
   -- and refused, with its number, line and length, exactly where there is a reason
-  pub numbers-refused : (a : Answer) → Refuses (answerOf (outcomeOf q room)) a ↔ NumbersUnmet q room a
+  pub numbers-refused : (a : Answer) → Refuses (answerOf told (outcomeOf q room)) a ↔ NumbersUnmet q room a
   unfolding outcomeOf
   numbers-refused a =
       let e = found-answered (firstIn (writing room q)) (certificateOf q) a in
-      let r = found-with-reason _ (writing room q) (lines-of-writing room q) (writing-told q room) a in
-      (λ h. r .0 (e .0 h .0), λ h. e .1 (r .1 h, omega (arith, h .on-numbers)))
+      let r = found-with-reason told _ 2 (writing room q) (lines-of-writing room q) (writing-told q room) a in
+      (λ h. r .0 (e .0 h .0), λ h. e .1 (r .1 h, omega (arith, h .numbered)))
 
   -- the claims of writing are those up to the eleventh, and that the certificate fits
   claims-are : AllSo (lines-of-writing room q) ↔ (AllSo (lines-of q) × (length (certificateOf q) ≤ room))
@@ -137,35 +138,35 @@ module _ (s : List ℕ) where
       λ h. shown (h .sheet) room (h .question1) ∙ numbers-written (h .sheet) room t .1 (h .questions, h .text),
     )
 
-    bad-answer : (l : ℕ) → readLines sheetLines s ≡ badLine l → answerOf (outcome s room) ≡ answer 1 l 0
+    bad-answer : (l : ℕ) → readLines sheetLines s ≡ badLine l → answerOf told (outcome s room) ≡ answer 1 l 0
     unfolding answerOf
-    bad-answer l g = ap answerOf (bad-sheet s room l g)
+    bad-answer l g = ap (answerOf told) (bad-sheet s room l g)
 
     -- and refused, with its number, line and length, exactly where a line is bad, or there is a reason in its numbers
-    pub sheet-refused : (a : Answer) → Refuses (answerOf (outcome s room)) a ↔ (Misspelt sheetLines s a ⊎ Unmet s room a)
+    pub sheet-refused : (a : Answer) → Refuses (answerOf told (outcome s room)) a ↔ (Misspelt sheetLines s a ⊎ Unmet s room a)
     sheet-refused a = (
       λ h.
           by-reading (readLines sheetLines s)
           (λ vs g. inr (record {
             sheet = sheetShown vs;
             question1 = shows vs g;
-            reason = numbers-refused (sheetShown vs) room a .0 (record { is = ap answerOf (sym (right-sheet s room vs g)) ∙ h .is; number = h .number });
+            reason = numbers-refused (sheetShown vs) room a .0 (record { is = ap (answerOf told) (sym (right-sheet s room vs g)) ∙ h .is; number = h .number });
           }))
           (λ l g. inl (record { line = l; bad = reads-bad sheetLines s l .0 g; told = sym (h .is) ∙ bad-answer l g })),
       ⊎-elim
           (λ m. misspelt-refuses (bad-answer (m .line) (reads-bad sheetLines s (m .line) .1 (m .bad))) (m .told))
           (λ u.
           let r = numbers-refused (u .sheet) room a .1 (u .reason) in
-          record { is = ap answerOf (shown (u .sheet) room (u .question1)) ∙ r .is; number = r .number }),
+          record { is = ap (answerOf told) (shown (u .sheet) room (u .question1)) ∙ r .is; number = r .number }),
     )
 
     -- the answer is 1 and line l exactly where l is the first bad line
-    pub first-bad-line : (l : ℕ) → (answerOf (outcome s room) ≡ answer 1 l 0) ↔ FirstBad sheetLines s l
+    pub first-bad-line : (l : ℕ) → (answerOf told (outcome s room) ≡ answer 1 l 0) ↔ FirstBad sheetLines s l
     first-bad-line l = (
       λ e.
           ⊎-elim
           (λ m. subst (FirstBad sheetLines s) (sym (ap (λ (x : Answer). x .line) (m .told))) (m .bad))
-          (λ u. absurd (omega (arith, u .reason .on-numbers)))
+          (λ u. absurd (omega (arith, u .reason .numbered)))
           (sheet-refused (answer 1 l 0) .0 (record { is = e; number = omega arith })),
       λ h. bad-answer l (reads-bad sheetLines s l .1 h),
     )
@@ -175,30 +176,25 @@ module _ (c : List ℕ) where
   lines-count : (vs : List ℤ) → readLines certificateLines c ≡ values vs → length vs ≡ certificateLines
   lines-count vs g = reads-values certificateLines c vs .0 g .count
 
-  -- what is answered to what checking finds
-  found-checked : (f : Found) (a : Answer) → Refuses (checkAnswer c f) a ↔ (Found-as f a × (1 ≤ a .refusal))
-  unfolding checkAnswer settled answerOf
-  found-checked (Refused r) a = found-answered (Refused r) c a
-  found-checked Met a = found-answered Met c a
-
   checked-with-reason : (vs : List ℤ) → readLines certificateLines c ≡ values vs → (a : Answer)
-      → Refuses (checkAnswer c (checked c)) a ↔ Reason (lines-of-checking vs (sheetShown vs)) 0 a
+      → Refuses (answerOf told (checkOutcome c)) a ↔ Reason 2 (lines-of-checking vs (sheetShown vs)) 0 a
+  unfolding checkOutcome
   checked-with-reason vs g a =
       let q = sheetShown vs in
       let n = lines-count vs g in
-      let e = found-checked (checked c) a in
-      let r = found-with-reason 0 (checking vs q) (lines-of-checking vs q) (checking-told vs q n) a in
+      let e = found-answered (checked c) c a in
+      let r = found-with-reason told 0 2 (checking vs q) (lines-of-checking vs q) (checking-told vs q n) a in
       let same = right-certificate c vs g in (
-        λ h. r .0 (subst (λ (f : Found). Found-as f a) same (e .0 h .0)),
-        λ h. e .1 (subst (λ (f : Found). Found-as f a) (sym same) (r .1 h), omega (arith, h .on-numbers)),
+        λ h. r .0 (subst (λ (f : Finding Refusal). Found-as told f a) same (e .0 h .0)),
+        λ h. e .1 (subst (λ (f : Finding Refusal). Found-as told f a) (sym same) (r .1 h), omega (arith, h .numbered)),
       )
 
-  bad-check : (l : ℕ) → readLines certificateLines c ≡ badLine l → checkAnswer c (checked c) ≡ answer 1 l 0
-  unfolding checkAnswer
-  bad-check l g = ap (checkAnswer c) (bad-certificate c l g)
+  bad-check : (l : ℕ) → readLines certificateLines c ≡ badLine l → answerOf told (checkOutcome c) ≡ answer 1 l 0
+  unfolding checkOutcome settled answerOf
+  bad-check l g = ap (λ (f : Finding Refusal). answerOf told (settled f c)) (bad-certificate c l g)
 
   -- it is refused, with its number, line and length, exactly where a line is bad, or there is a reason in its values
-  pub check-refused : (a : Answer) → Refuses (checkAnswer c (checked c)) a ↔ (Misspelt certificateLines c a ⊎ Unlike c a)
+  pub check-refused : (a : Answer) → Refuses (answerOf told (checkOutcome c)) a ↔ (Misspelt certificateLines c a ⊎ Unlike c a)
   check-refused a = (
     λ h.
         by-reading (readLines certificateLines c)
@@ -211,13 +207,13 @@ module _ (c : List ℕ) where
 
   -- what passes meets the questions up to the eleventh, and its lines behind the sheet's are the figures'
   passed-claims : (vs : List ℤ) → readLines certificateLines c ≡ values vs
-      → (checked c ≡ Met) ↔ (AllSo (lines-of (sheetShown vs)) × (drop sheetLines vs ≡ figureValues (figures 1 (sheetShown vs))))
+      → (checked c ≡ met) ↔ (AllSo (lines-of (sheetShown vs)) × (drop sheetLines vs ≡ figureValues (figures 1 (sheetShown vs))))
   unfolding lines-of-checking
   passed-claims vs g =
       let q = sheetShown vs in
       let n = lines-count vs g in
       let same = right-certificate c vs g in
-      let met = met-when-so 0 2 (checking vs q) (lines-of-checking vs q) (checking-told vs q n) in
+      let met = met-when-so told 0 2 (checking vs q) (lines-of-checking vs q) (checking-told vs q n) in
       let both = so-of-both (lines-of q) ([] ∷ lines13 vs q ∷ []) in
       let agree = figures-agree vs q n in (
         λ e. let b = both .0 (met .0 (sym same ∙ e)) in (b .0, agree .0 (b .1 .1 .0)),
@@ -225,7 +221,7 @@ module _ (c : List ℕ) where
       )
 
   -- so it is the certificate of the sheet that it shows
-  passed-is : (vs : List ℤ) → readLines certificateLines c ≡ values vs → checked c ≡ Met → AllSo (lines-of (sheetShown vs)) × (c ≡ certificateOf (sheetShown vs))
+  passed-is : (vs : List ℤ) → readLines certificateLines c ≡ values vs → checked c ≡ met → AllSo (lines-of (sheetShown vs)) × (c ≡ certificateOf (sheetShown vs))
   unfolding certificateOf certificateValues
   passed-is vs g e =
       let q = sheetShown vs in
@@ -235,7 +231,7 @@ module _ (c : List ℕ) where
       (p .0, t .text ∙ ap linesText parts)
 
   -- and the certificate of a sheet that meets the questions passes
-  passes-for : (q : Sheet) → AllSo (lines-of q) → c ≡ certificateOf q → checked c ≡ Met
+  passes-for : (q : Sheet) → AllSo (lines-of q) → c ≡ certificateOf q → checked c ≡ met
   unfolding certificateValues
   passes-for q h e =
       let p = figureValues (figures 1 q) in
@@ -252,7 +248,7 @@ issued-for q h =
     numbers-written q room (certificateOf q) .1 (claims-are q room .1 (h, omega arith), refl)
 
 -- a certificate passes exactly where some sheet, given room, is written as it
-pub passes-when-issued : (c : List ℕ) → (checked c ≡ Met) ↔ Issued c
+pub passes-when-issued : (c : List ℕ) → (checked c ≡ met) ↔ Issued c
 passes-when-issued c = (
   λ e.
       by-reading (readLines certificateLines c)
@@ -290,14 +286,14 @@ module _ (room : ℕ) (enough : longest certificateLines ≤ room) where
       let sound = so-is-allowed q .0 (rw e at (h .before)) .0 in
       ⊎-elim (λ n. n .0 (omega (arith, enough, length-most q sound))) (λ n. n .1) (rw e at (h .first))
 
-  pub room-for-numbers : (q : Sheet) → (answerOf (outcomeOf q room)) .refusal ≡ 12 → ⊥
+  pub room-for-numbers : (q : Sheet) → (answerOf told (outcomeOf q room)) .refusal ≡ 12 → ⊥
   room-for-numbers q e =
-      let a = answerOf (outcomeOf q room) in
+      let a = answerOf told (outcomeOf q room) in
       not-unmet q a e (numbers-refused q room a .0 (record { is = refl; number = omega (arith, e) }))
 
-  pub room-for-text : (s : List ℕ) → (answerOf (outcome s room)) .refusal ≡ 12 → ⊥
+  pub room-for-text : (s : List ℕ) → (answerOf told (outcome s room)) .refusal ≡ 12 → ⊥
   room-for-text s e =
-      let a = answerOf (outcome s room) in
+      let a = answerOf told (outcome s room) in
       ⊎-elim
       (λ m. omega (arith, e, ap (λ (x : Answer). x .refusal) (m .told)))
       (λ u. not-unmet (u .sheet) a e (u .reason))
@@ -308,17 +304,18 @@ pub cut-sheet : (s : List ℕ) (m room : ℕ) → longest sheetLines < m → out
 unfolding outcome
 cut-sheet s m room h = ap (λ (r : Reading). outcomeRead r room) (cut-behind sheetLines m s h)
 
-same-answer : (c : List ℕ) (m : ℕ) (f : Found) → longest certificateLines < m → checked c ≡ f → checkAnswer (take m c) f ≡ checkAnswer c f
-unfolding checkAnswer
-same-answer c m (Refused r) h e = refl
-same-answer c m Met h e =
+same-answer : (c : List ℕ) (m : ℕ) (f : Finding Refusal) → longest certificateLines < m → checked c ≡ f
+    → answerOf told (settled f (take m c)) ≡ answerOf told (settled f c)
+unfolding settled answerOf
+same-answer c m (refusal r) h e = refl
+same-answer c m met h e =
     let i = passes-when-issued c .0 e in
-    ap (λ (l : List ℕ). checkAnswer l Met) (take-all m c (omega (arith, h, sheet-length (i .sheet) (i .room) c (i .writes))))
+    ap (λ (l : List ℕ). answerOf told (settled met l)) (take-all m c (omega (arith, h, sheet-length (i .sheet) (i .room) c (i .writes))))
 
-pub cut-certificate : (c : List ℕ) (m : ℕ) → longest certificateLines < m → checkAnswer (take m c) (checked (take m c)) ≡ checkAnswer c (checked c)
-unfolding checked
+pub cut-certificate : (c : List ℕ) (m : ℕ) → longest certificateLines < m → answerOf told (checkOutcome (take m c)) ≡ answerOf told (checkOutcome c)
+unfolding checkOutcome checked
 cut-certificate c m h =
-    ap (λ (r : Reading). checkAnswer (take m c) (checkedRead r)) (cut-behind certificateLines m c h)
+    ap (λ (r : Reading). answerOf told (settled (checkedRead r) (take m c))) (cut-behind certificateLines m c h)
     ∙ same-answer c m (checked c) h refl
 
 -- The third demand, entire.

@@ -7,10 +7,10 @@ use native.Mathlib.Numerals.{add-one}
 use lib.ListN.{length, getD, drop, drop-of-length-le}
 use lib.Seq.{drop-cons}
 use Rattle.section.specs.declared.Span.{Span}
-use Rattle.section.specs.Claims.{test}
+use Rattle.questions.specs.Claims.{test}
 use Rattle.certificate.specs.declared.Refusal.the-variants.{Range}
-use Rattle.certificate.specs.declared.Found.the-variants.{Refused, Met}
-use Rattle.certificate.specs.Questions.{_else_, ranged, firstOf}
+use Rattle.questions.specs.Asking.{_else_, refusal, met, firstOf}
+use Rattle.certificate.specs.Questions.{ranged}
 use Rattle.section.specs.Sheets.{inside}
 
 module _ (line : ℕ) (ss : List Span) (vs : List ℕ) (i : ℕ) (d : Span) (a : i < length ss) (b : i < length vs) where
@@ -18,7 +18,7 @@ module _ (line : ℕ) (ss : List Span) (vs : List ℕ) (i : ℕ) (d : Span) (a :
   unfolding ranged
   here = rw (add-one i, drop-cons ss i d a, drop-cons vs i 0 b)
 
-  pub out-of-range : test (inside (getD ss i d) (getD vs i 0)) ≡ false → firstOf (ranged line (drop i ss) (drop i vs)) ≡ Refused (Range line)
+  pub out-of-range : test (inside (getD ss i d) (getD vs i 0)) ≡ false → firstOf (ranged line (drop i ss) (drop i vs)) ≡ refusal (Range line)
   unfolding firstOf
   out-of-range e = ap firstOf here ∙ rw e
 
@@ -27,6 +27,6 @@ module _ (line : ℕ) (ss : List Span) (vs : List ℕ) (i : ℕ) (d : Span) (a :
   unfolding firstOf
   in-range e = ap firstOf here ∙ rw e
 
-pub all-in-range : (line : ℕ) (ss : List Span) (vs : List ℕ) (i : ℕ) → length ss ≤ i → firstOf (ranged line (drop i ss) (drop i vs)) ≡ Met
+pub all-in-range : (line : ℕ) (ss : List Span) (vs : List ℕ) (i : ℕ) → length ss ≤ i → firstOf (ranged line (drop i ss) (drop i vs)) ≡ met
 unfolding ranged firstOf
 all-in-range line ss vs i h = ap (λ (l : List Span). firstOf (ranged line l (drop i vs))) (drop-of-length-le ss {i = i} h)

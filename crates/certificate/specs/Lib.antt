@@ -1,5 +1,4 @@
 pub mod Refusals
-pub mod Answers
 pub mod Certificates
 pub mod Questions
 pub mod Reasons

@@ -11,10 +11,12 @@ use Rattle.section.specs.Figures.{Printed}
 use Rattle.text.specs.Keys.{bytes, certificateLines}
 use Rattle.text.specs.Lines.{longest}
 use Rattle.text.specs.Reading.{Reading, values, badLine, readLines}
-use Rattle.certificate.specs.Refusals.{answer}
+use Rattle.certificate.specs.Refusals.{told}
 use Rattle.certificate.specs.Certificates.{figuresShown}
 use Rattle.certificate.specs.Outcome.{outcome}
-use Rattle.certificate.specs.Answers.{Outcome, refused, written, answerOf}
+use Rattle.questions.specs.Answers.{answer}
+use Rattle.questions.specs.Outcomes.{Outcome, refused, written, answerOf}
+use Rattle.certificate.specs.declared.Refusal.{Refusal}
 
 -- what is worked, and the value that the paper expects, or the two numbers that it is to lie between; or two such in one case
 infix 3 _gives_
@@ -65,7 +67,7 @@ unfoldable pub figuresRead : Reading → Printed
 figuresRead (values vs) = figuresShown vs
 figuresRead (badLine l) = figuresShown []
 
-unfoldable pub figuresIn : Outcome → Printed
+unfoldable pub figuresIn : Outcome Refusal → Printed
 figuresIn (written t) = figuresRead (readLines certificateLines t)
 figuresIn (refused r) = figuresShown []
 
@@ -99,9 +101,9 @@ marked =
     also figuresB .shiftlo lies-between pos 138 and pos 147
     also figuresB .shifthi lies-between pos 138 and pos 147)
     -- 11. B with allow=0: its number and line, and length 0, as for the two behind it
-    ∷ (answerOf (outcome sheet11 room) gives answer 11 12 0)
+    ∷ (answerOf told (outcome sheet11 room) gives answer 11 12 0)
     -- 12. A with c=2600
-    ∷ (answerOf (outcome sheet12 room) gives answer 7 3 0)
+    ∷ (answerOf told (outcome sheet12 room) gives answer 7 3 0)
     -- 13. A with b1=b2=2000, c=1200, r=0, tnom=100, t=95
-    ∷ (answerOf (outcome sheet13 room) gives answer 9 3 0)
+    ∷ (answerOf told (outcome sheet13 room) gives answer 9 3 0)
     ∷ []

@@ -5,18 +5,19 @@ use mathlib.Core.Path.{_≡_}
 use lib.IntN.{ℤ, pos}
 use lib.ListN.{length}
 use Rattle.section.specs.declared.Sheet.{Sheet}
-use Rattle.section.specs.Claims.{_≤?_, _is_}
+use Rattle.questions.specs.Claims.{_≤?_, _is_}
 use Rattle.section.specs.Working.{worked}
 use Rattle.section.specs.Figures.{figures, Held}
 use Rattle.text.specs.Keys.{sheetLines, certificateLines}
 use Rattle.text.specs.Lines.{linesFrom, linesText, TextOf, FirstBad}
 use Rattle.text.specs.Reading.{values, readLines}
-use Rattle.certificate.specs.declared.Answer.{Answer}
-use Rattle.certificate.specs.Refusals.{answer}
-use Rattle.certificate.specs.Reasons.{Lined, _at-line_, lines-of, AllSo, Reason}
+use Rattle.questions.specs.declared.Answer.{Answer}
+use Rattle.questions.specs.Answers.{answer}
+use Rattle.questions.specs.Reasons.{Lined, _at-line_, AllSo, Reason}
+use Rattle.questions.specs.Outcomes.{written}
+use Rattle.certificate.specs.Reasons.{lines-of}
 use Rattle.certificate.specs.Certificates.{sheetValues, figureValues, certificateOf, valueAt, sheetShown, figuresShown}
 use Rattle.certificate.specs.Outcome.{outcome, outcomeOf}
-use Rattle.certificate.specs.Answers.{written}
 
 -- Are all lines there, spelt as the paper says, with nothing behind the last? They show the sheet q.
 pub record Question1 (s : List ℕ) (q : Sheet) : Type 0 where
@@ -60,7 +61,7 @@ pub record Misspelt (n : ℕ) (s : List ℕ) (a : Answer) : Type 0 where
 
 -- why numbers are refused with a
 abbrev pub NumbersUnmet : Sheet → ℕ → Answer → Type 0
-NumbersUnmet q room a = Reason (lines-of-writing room q) (length (certificateOf q)) a
+NumbersUnmet q room a = Reason 2 (lines-of-writing room q) (length (certificateOf q)) a
 
 -- s shows a sheet that is refused, with the reason
 pub record Unmet (s : List ℕ) (room : ℕ) (a : Answer) : Type 0 where
@@ -72,7 +73,7 @@ pub record Unmet (s : List ℕ) (room : ℕ) (a : Answer) : Type 0 where
 pub record Unlike (c : List ℕ) (a : Answer) : Type 0 where
   pub shown : List ℤ
   pub text : TextOf certificateLines shown c
-  pub reason : Reason (lines-of-checking shown (sheetShown shown)) 0 a
+  pub reason : Reason 2 (lines-of-checking shown (sheetShown shown)) 0 a
 
 -- some sheet, given room, is written as c
 pub record Issued (c : List ℕ) : Type 0 where

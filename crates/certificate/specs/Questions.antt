@@ -1,12 +1,11 @@
 -- The questions on twelve numbers, in order, and what they give. (docs/WORKING.md, 15.)
 use Prim.Native.Nat.{ℕ, _+_, _-_}
-use mathlib.Core.Bool.{cond}
 use mathlib.Core.List.{List, [], _∷_, _++_}
-use mathlib.Core.Path.{_≡_}
 use lib.ListN.{drop}
 use Rattle.section.specs.declared.Sheet.{Sheet}
 use Rattle.section.specs.declared.Span.{Span}
-use Rattle.section.specs.Claims.{Claim, _and_, _or_, test}
+use Rattle.questions.specs.Claims.{_and_, _or_}
+use Rattle.questions.specs.Asking.{Asked, _else_, Finding, refusal, met, firstIn}
 use Rattle.section.specs.Sheets.{span-of, inside, lip, core-within, width, lip-length, depth, radius-core, radius-flange, mid-line-lip, form-z, lips-apart}
 use Rattle.section.specs.Figures.{Printed, figures, allowance}
 use Rattle.section.specs.Forms.{figuresOf}
@@ -18,11 +17,6 @@ use Rattle.certificate.specs.Certificates.{values}
 use Rattle.certificate.specs.declared.Verdict.{Verdict}
 use Rattle.certificate.specs.declared.Verdict.the-variants.{Refused as Turned, Accepted}
 
--- what is asked, and the refusal where it is not so
-infix 30 _else_
-pub data Asked : Type 0 where
-  _else_ : Claim → Refusal → Asked
-
 -- the ranges in the order of the lines
 unfoldable pub ranges : List Span
 ranges =
@@ -30,85 +24,71 @@ ranges =
     ∷ span-of .tnom ∷ span-of .t ∷ span-of .fyb ∷ span-of .gm0 ∷ span-of .rounds ∷ span-of .allow ∷ []
 
 -- each value in its range, the first of them on this line
-unfoldable pub ranged : ℕ → List Span → List ℕ → List Asked
+unfoldable pub ranged : ℕ → List Span → List ℕ → List (Asked Refusal)
 ranged line [] vs = []
 ranged line (s ∷ ss) [] = []
 ranged line (s ∷ ss) (v ∷ vs) = (inside s v else Range line) ∷ ranged (line + 1) ss vs
 
 -- Is every value in range?
-unfoldable pub question2 : Sheet → List Asked
+unfoldable pub question2 : Sheet → List (Asked Refusal)
 question2 q = ranged 1 ranges (values q)
 
 -- t ≤ tnom?
-unfoldable pub question3 : Sheet → List Asked
+unfoldable pub question3 : Sheet → List (Asked Refusal)
 question3 q = (core-within (q .t .0) (q .tnom .0) else Thickness) ∷ []
 
 -- b ≤ 60t, flange 1 then 2?
-unfoldable pub question4 : Sheet → List Asked
+unfoldable pub question4 : Sheet → List (Asked Refusal)
 question4 q = (width (q .b1) (q .t .0) else FlangeWidth 3) ∷ (width (q .b2) (q .t .0) else FlangeWidth 4) ∷ []
 
 -- c ≤ 50t?
-unfoldable pub question5 : Sheet → List Asked
+unfoldable pub question5 : Sheet → List (Asked Refusal)
 question5 q = (lip-length (q .c) (q .t .0) else LipLength) ∷ []
 
 -- h ≤ 500t?
-unfoldable pub question6 : Sheet → List Asked
+unfoldable pub question6 : Sheet → List (Asked Refusal)
 question6 q = (depth (q .h) (q .t .0) else Depth) ∷ []
 
 -- b ≤ 5c and 5c ≤ 3b, flange 1 then 2?
-unfoldable pub question7 : Sheet → List Asked
+unfoldable pub question7 : Sheet → List (Asked Refusal)
 question7 q = (lip (q .b1) (q .c) else LipRatio 3) ∷ (lip (q .b2) (q .c) else LipRatio 4) ∷ []
 
 -- r ≤ 5t and 10r ≤ bp1 and 10r ≤ bp2?
-unfoldable pub question8 : Sheet → List Asked
+unfoldable pub question8 : Sheet → List (Asked Refusal)
 question8 q =
     (radius-core (q .r) (q .t .0) and radius-flange (q .r) (q .b1) (q .tnom .0) and radius-flange (q .r) (q .b2) (q .tnom .0) else Radius) ∷ []
 
 -- 5cp ≤ 3bp, flange 1 then 2?
-unfoldable pub question9 : Sheet → List Asked
+unfoldable pub question9 : Sheet → List (Asked Refusal)
 question9 q =
     (mid-line-lip (q .b1) (q .c) (q .tnom .0) else MidLineRatio 3) ∷ (mid-line-lip (q .b2) (q .c) (q .tnom .0) else MidLineRatio 4) ∷ []
 
 -- Form Z, or 2c ≤ h?
-unfoldable pub question10 : Sheet → List Asked
+unfoldable pub question10 : Sheet → List (Asked Refusal)
 question10 q = (form-z (q .form) or lips-apart (q .c) (q .h) else Form) ∷ []
 
 -- Is the area's upper end at most area + allow, as worked at our scale?
-unfoldable pub question11 : Sheet → List Asked
+unfoldable pub question11 : Sheet → List (Asked Refusal)
 question11 q = (allowance 1 q else Allowance) ∷ []
 
 -- the questions that need no working, and all of them up to the eleventh; the first is the second of the paper
-unfoldable pub onNumbers : Sheet → List (List Asked)
+unfoldable pub onNumbers : Sheet → List (List (Asked Refusal))
 onNumbers q =
     question2 q ∷ question3 q ∷ question4 q ∷ question5 q ∷ question6 q ∷ question7 q ∷ question8 q ∷ question9 q ∷ question10 q ∷ []
 
-unfoldable pub questions : Sheet → List (List Asked)
+unfoldable pub questions : Sheet → List (List (Asked Refusal))
 questions q = onNumbers q ++ (question11 q ∷ [])
 
--- the first "no" of one question, and of several
-unfoldable pub firstOf : List Asked → Found
-firstOf [] = Met
-firstOf ((a else r) ∷ cs) = cond (test a) (firstOf cs) (Refused r)
-
--- where the first is met, the second is asked
-infixr 40 _then_
-abbrev pub _then_ : Found → Found → Found
-Met then f = f
-(Refused r) then f = Refused r
-
-unfoldable pub firstIn : List (List Asked) → Found
-firstIn [] = Met
-firstIn (cs ∷ qs) = firstOf cs then firstIn qs
-
--- f is the first "no" of these questions
-pub record First (qs : List (List Asked)) (f : Found) : Type 0 where
-  pub first : f ≡ firstIn qs
+-- what is found, in the form that the code returns
+abbrev pub foundOf : Finding Refusal → Found
+foundOf (refusal r) = Refused r
+foundOf met = Met
 
 -- the questions from the k-th of the paper on, up to the tenth
-unfoldable pub from : ℕ → Sheet → List (List Asked)
+unfoldable pub from : ℕ → Sheet → List (List (Asked Refusal))
 from k q = drop (k - 2) (onNumbers q)
 
-unfoldable pub firstRefusal : Sheet → Found
+unfoldable pub firstRefusal : Sheet → Finding Refusal
 firstRefusal q = firstIn (onNumbers q)
 
 -- what a sheet gives before anything is written
@@ -116,9 +96,9 @@ pub data Judged : Type 0 where
   refused : Refusal → Judged
   accepted : Printed → Judged
 
-unfoldable pub judged : Found → Printed → Judged
-judged (Refused r) p = refused r
-judged Met p = accepted p
+unfoldable pub judged : Finding Refusal → Printed → Judged
+judged (refusal r) p = refused r
+judged met p = accepted p
 
 unfoldable pub verdict : Sheet → Judged
 verdict q = judged (firstIn (questions q)) (figures 1 q)

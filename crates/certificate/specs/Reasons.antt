@@ -1,27 +1,15 @@
 -- What the questions ask, with the lines that they name, and what it says that a sheet meets them or is refused by one. (docs/WORKING.md, 15.)
-use Prim.Native.Nat.{ℕ, _-_, _≤_}
-use mathlib.Core.Bool.{cond}
 use mathlib.Core.List.{List, [], _∷_, _++_}
 use mathlib.Core.Path.{_≡_}
-use mathlib.Core.Logic.{_⊎_}
-use lib.Dec.{eqb}
-use lib.ListN.{take, getD}
+use Rattle.questions.specs.declared.Answer.{Answer}
+use Rattle.questions.specs.Claims.{_and_, _or_}
+use Rattle.questions.specs.Reasons.{Lined, _at-line_}
 use Rattle.section.specs.declared.Sheet.{Sheet}
-use Rattle.section.specs.Claims.{Claim, _and_, _or_, Holds}
-use Rattle.section.specs.Sheets.{span-of, core-within, width, lip-length, depth, radius-core, radius-flange, mid-line-lip, form-z, lips-apart}
+use Rattle.section.specs.Sheets.{span-of, inside, lip, core-within, width, lip-length, depth, radius-core, radius-flange, mid-line-lip, form-z, lips-apart}
 use Rattle.section.specs.Figures.{allowance}
-use Rattle.certificate.specs.declared.Answer.{Answer}
 use Rattle.certificate.specs.declared.Refusal.{Refusal}
-use Rattle.certificate.specs.declared.Found.{Found}
-use Rattle.certificate.specs.declared.Found.the-variants.{Refused}
 use Rattle.certificate.specs.Refusals.{told}
 use Rattle.certificate.specs.Questions.{Judged, refused}
-use Rattle.section.specs.Sheets.{inside, lip}
-
--- a claim, and the line that is told where it is not so
-infix 30 _at-line_
-pub data Lined : Type 0 where
-  _at-line_ : Claim → ℕ → Lined
 
 -- The claims of the questions from the second to the tenth, each with the line that the paper names for it.
 unfoldable pub lines-on-numbers : Sheet → List (List Lined)
@@ -66,49 +54,8 @@ lines11 q = (allowance 1 q at-line 12) ∷ []
 unfoldable pub lines-of : Sheet → List (List Lined)
 lines-of q = lines-on-numbers q ++ (lines11 q ∷ [])
 
--- all that a question claims is so, and all that several claim
-abbrev pub So : List Lined → Type 0
-So [] = Unit
-So ((a at-line l) ∷ cs) = Holds a × So cs
-
-abbrev pub AllSo : List (List Lined) → Type 0
-AllSo [] = Unit
-AllSo (cs ∷ qs) = So cs × AllSo qs
-
--- the line stands at the first claim that is not so
-abbrev pub FirstNo : List Lined → ℕ → Type 0
-FirstNo [] line = ⊥
-FirstNo ((a at-line l) ∷ cs) line = ((Holds a → ⊥) × (l ≡ line)) ⊎ (Holds a × FirstNo cs line)
-
--- the place of an answer's question among them, the paper's second being the first
-abbrev pub place : Answer → ℕ
-place a = a .refusal - 2
-
--- the length that is told with a number: 0 except at 12, where it is the length needed
-abbrev pub length-told : ℕ → ℕ → ℕ
-length-told needed number = cond (eqb number 12) needed 0
-
--- Why a is answered to the questions qs, the first of which is the paper's second: those before the one that bears its number are met, its line
--- stands at the first "no" within that one, and the length is 0 but for the one needed.
-pub record Reason (qs : List (List Lined)) (needed : ℕ) (a : Answer) : Type 0 where
-  pub on-numbers : 2 ≤ a .refusal
-  pub before : AllSo (take (place a) qs)
-  pub first : FirstNo (getD qs (place a) []) (a .line)
-  pub size : a .length ≡ length-told needed (a .refusal)
-
--- questions find a refusal that tells a
-pub record Found-as (f : Found) (a : Answer) : Type 0 where
-  pub refusal : Refusal
-  pub found : f ≡ Refused refusal
-  pub tells : told refusal ≡ a
-
 -- a sheet is judged by a refusal that tells a
 pub record Judged-as (j : Judged) (a : Answer) : Type 0 where
   pub refusal : Refusal
   pub judged : j ≡ refused refusal
   pub tells : told refusal ≡ a
-
--- a call answers a, and refuses
-pub record Refuses (answered a : Answer) : Type 0 where
-  pub is : answered ≡ a
-  pub number : 1 ≤ a .refusal

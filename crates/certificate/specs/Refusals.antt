@@ -1,12 +1,8 @@
 -- What each refusal tells: the paper's number, line and length. (docs/WORKING.md, 15.)
-use Prim.Native.Nat.{ℕ}
-use Rattle.certificate.specs.declared.Answer.{Answer}
+use Rattle.questions.specs.declared.Answer.{Answer}
+use Rattle.questions.specs.Answers.{answer}
 use Rattle.certificate.specs.declared.Refusal.{Refusal}
 use Rattle.certificate.specs.declared.Refusal.the-variants.{Spelling, Range, Thickness, FlangeWidth, LipLength, Depth, LipRatio, Radius, MidLineRatio, Form, Allowance, Room, Figure}
-
--- number, line and length
-abbrev pub answer : ℕ → ℕ → ℕ → Answer
-answer number line len = record { refusal = number; line = line; length = len }
 
 -- the length is 0 except at 12
 abbrev pub told : Refusal → Answer

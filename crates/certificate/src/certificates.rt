@@ -1,12 +1,13 @@
 // Writing and checking certificates. (docs/WORKING.md, 14.)
-use crate::Answer;
 use crate::Found;
 use crate::Refusal;
 use crate::Verdict;
-use crate::questions;
 use crate::refusals;
 use crate::sheet_of;
+use crate::verdicts;
 use pair::signed::Integer;
+use questions::Answer;
+use questions::answers;
 use section::Figures;
 use section::Sheet;
 use text::CERTIFICATE_LINES;
@@ -20,18 +21,21 @@ ghost use mathlib.Core.List.{map};
 ghost use lib.ListN.{length, take, drop};
 ghost use lib.IntN.{pos};
 ghost use Rattle.pair.specs.Forms.{integer, plain};
-ghost use Rattle.section.specs.Claims.{_is_, test};
+ghost use Rattle.questions.specs.Claims.{_is_, test};
 ghost use Rattle.section.specs.Figures.{figures};
 ghost use Rattle.section.specs.Forms.{figuresOf};
 ghost use Rattle.text.specs.Forms.{integers};
 ghost use Rattle.text.specs.Keys.{sheetLines, certificateLines};
 ghost use Rattle.text.specs.Lines.{linesText, longest};
 ghost use Rattle.text.specs.Reading.{values};
-ghost use Rattle.certificate.specs.Questions.{firstOf};
+ghost use Rattle.questions.specs.Asking.{firstOf};
+ghost use Rattle.questions.specs.Outcomes.{fitted, answerOf, bufferAfter, answerIn, bufferIn};
+ghost use Rattle.certificate.specs.declared.Refusal.the-variants.{Room};
+ghost use Rattle.certificate.specs.Refusals.{told};
+ghost use Rattle.certificate.specs.Questions.{foundOf};
 ghost use Rattle.certificate.specs.Certificates.{sheetOf};
 ghost use Rattle.certificate.specs.Certificates.{certificateValues, sheetShown};
-ghost use Rattle.certificate.specs.Outcome.{agreeing, fitted, outcomeOf, outcome, checkedRead, checked};
-ghost use Rattle.certificate.specs.Answers.{answerOf, bufferAfter, answerIn, bufferIn, checkAnswer};
+ghost use Rattle.certificate.specs.Outcome.{agreeing, outcomeOf, outcome, checkedRead, checkOutcome};
 
 // The value of a line that has no minus.
 fn number(size: u64) -> Integer
@@ -95,8 +99,8 @@ fn sheet_shown(values: [Integer; CERTIFICATE_LINES]) -> Sheet
 // certificate, its length need not be found first.
 fn put(values: [Integer; CERTIFICATE_LINES], buffer: &mut [u8]) -> Answer
     requires { ⌜ length (linesText (integers values)) ≤ longest certificateLines ⌝ }
-    ensures { λ a. ⌜ a ≡ answerOf (fitted (length (now (buffer .entry))) (linesText (integers values))) ⌝ }
-    ensures { λ _. ⌜ now (buffer .exit) ≡ bufferAfter (fitted (length (now (buffer .entry))) (linesText (integers values))) (now (buffer .entry)) ⌝ }
+    ensures { λ a. ⌜ a ≡ answerOf told (fitted Room (length (now (buffer .entry))) (linesText (integers values))) ⌝ }
+    ensures { λ _. ⌜ now (buffer .exit) ≡ bufferAfter (fitted Room (length (now (buffer .entry))) (linesText (integers values))) (now (buffer .entry)) ⌝ }
 {
     if buffer.len() < LONGEST_CERTIFICATE {
         let needed = writing::lines_length(values, 0, CERTIFICATE_LINES);
@@ -105,15 +109,15 @@ fn put(values: [Integer; CERTIFICATE_LINES], buffer: &mut [u8]) -> Answer
         }
     }
     let n = writing::write_lines(buffer, values, 0, CERTIFICATE_LINES);
-    refusals::answer(0, 0, n as u64)
+    answers::answer(0, 0, n as u64)
 }
 
 // The certificate of a sheet's numbers, into the buffer.
 pub fn write_sheet(q: Sheet, buffer: &mut [u8]) -> Answer
-    ensures { λ a. ⌜ a ≡ answerIn (outcomeOf q) (now (buffer .entry)) ⌝ }
+    ensures { λ a. ⌜ a ≡ answerIn told (outcomeOf q) (now (buffer .entry)) ⌝ }
     ensures { λ _. ⌜ now (buffer .exit) ≡ bufferIn (outcomeOf q) (now (buffer .entry)) ⌝ }
 {
-    let verdict = questions::verdict_of(q);
+    let verdict = verdicts::verdict_of(q);
     match verdict {
         Verdict::Refused(r) => refusals::told_of(r),
         Verdict::Accepted(f) => put(line_values(q, f), buffer),
@@ -137,7 +141,7 @@ pub fn from_numbers(
     allow: u64,
     buffer: &mut [u8],
 ) -> Answer
-    ensures { λ a. ⌜ a ≡ answerIn (outcomeOf (sheetOf form h b1 b2 c r tnom t fyb gm0 rounds allow)) (now (buffer .entry)) ⌝ }
+    ensures { λ a. ⌜ a ≡ answerIn told (outcomeOf (sheetOf form h b1 b2 c r tnom t fyb gm0 rounds allow)) (now (buffer .entry)) ⌝ }
     ensures { λ _. ⌜ now (buffer .exit) ≡ bufferIn (outcomeOf (sheetOf form h b1 b2 c r tnom t fyb gm0 rounds allow)) (now (buffer .entry)) ⌝ }
 {
     let q = sheet_of(form, h, b1, b2, c, r, tnom, t, fyb, gm0, rounds, allow);
@@ -146,7 +150,7 @@ pub fn from_numbers(
 
 // The certificate of a sheet, into the buffer.
 pub fn write(sheet: &[u8], buffer: &mut [u8]) -> Answer
-    ensures { λ a. ⌜ a ≡ answerIn (outcome (now (sheet .entry))) (now (buffer .entry)) ⌝ }
+    ensures { λ a. ⌜ a ≡ answerIn told (outcome (now (sheet .entry))) (now (buffer .entry)) ⌝ }
     ensures { λ _. ⌜ now (buffer .exit) ≡ bufferIn (outcome (now (sheet .entry))) (now (buffer .entry)) ⌝ }
 {
     let lines = reading::read_lines(sheet, SHEET_LINES);
@@ -167,7 +171,7 @@ fn same(x: Integer, y: Integer) -> bool
 
 // Question 13: the first of the lines behind the sheet's that differs.
 fn first_unlike(shown: [Integer; CERTIFICATE_LINES], worked: [Integer; CERTIFICATE_LINES]) -> Found
-    ensures { λ f. ⌜ f ≡ firstOf (agreeing 13 (drop sheetLines (integers shown)) (drop sheetLines (integers worked))) ⌝ }
+    ensures { λ f. ⌜ f ≡ foundOf (firstOf (agreeing 13 (drop sheetLines (integers shown)) (drop sheetLines (integers worked)))) ⌝ }
 {
     let mut i = SHEET_LINES;
     while i < CERTIFICATE_LINES {
@@ -184,10 +188,10 @@ fn first_unlike(shown: [Integer; CERTIFICATE_LINES], worked: [Integer; CERTIFICA
 
 // The first of the questions from the second on that a certificate's values do not meet.
 fn compared(shown: [Integer; CERTIFICATE_LINES]) -> Found
-    ensures { λ f. ⌜ f ≡ checkedRead (values (integers (take certificateLines shown))) ⌝ }
+    ensures { λ f. ⌜ f ≡ foundOf (checkedRead (values (integers (take certificateLines shown)))) ⌝ }
 {
     let q = sheet_shown(shown);
-    let verdict = questions::verdict_of(q);
+    let verdict = verdicts::verdict_of(q);
     match verdict {
         Verdict::Refused(r) => Found::Refused(r),
         Verdict::Accepted(f) => first_unlike(shown, line_values(q, f)),
@@ -196,7 +200,7 @@ fn compared(shown: [Integer; CERTIFICATE_LINES]) -> Found
 
 // Whether a certificate is the one written for its own sheet.
 pub fn check(certificate: &[u8]) -> Answer
-    ensures { λ a. ⌜ a ≡ checkAnswer (now (certificate .entry)) (checked (now (certificate .entry))) ⌝ }
+    ensures { λ a. ⌜ a ≡ answerOf told (checkOutcome (now (certificate .entry))) ⌝ }
 {
     let lines = reading::read_lines(certificate, CERTIFICATE_LINES);
     let verdict = lines.verdict;
@@ -207,7 +211,7 @@ pub fn check(certificate: &[u8]) -> Answer
             let found = compared(values);
             match found {
                 Found::Refused(r) => refusals::told_of(r),
-                Found::Met => refusals::answer(0, 0, certificate.len() as u64),
+                Found::Met => answers::answer(0, 0, certificate.len() as u64),
             }
         }
     }

@@ -1,8 +1,7 @@
 // A sheet's numbers, the questions on them, and what they give. (docs/WORKING.md, 14 and 15.)
 pub mod certificates;
-pub mod exports;
-pub mod questions;
 pub mod refusals;
+pub mod verdicts;
 
 use section::Core;
 use section::Figures;
@@ -52,14 +51,6 @@ pub enum Found {
 pub enum Verdict {
     Refused(Refusal),
     Accepted(Figures),
-}
-
-// What a call answers: the refusal's number or 0, a line, a length.
-#[repr(C)]
-pub struct Answer {
-    pub refusal: u64,
-    pub line: u64,
-    pub length: u64,
 }
 
 // Twelve plain numbers, in the order of the lines, as a sheet.

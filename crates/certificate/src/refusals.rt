@@ -1,19 +1,9 @@
 // What a refusal tells. (docs/WORKING.md, 15.)
-use crate::Answer;
 use crate::Refusal;
+use questions::Answer;
+use questions::answers::answer;
 ghost use mathlib.Core.Path.{_≡_};
-ghost use Rattle.certificate.specs.Refusals.{answer, told};
-
-// A number or 0, a line and a length.
-pub fn answer(refusal: u64, line: u64, length: u64) -> Answer
-    ensures { λ a. ⌜ a ≡ answer refusal line length ⌝ }
-{
-    Answer {
-        refusal,
-        line,
-        length,
-    }
-}
+ghost use Rattle.certificate.specs.Refusals.{told};
 
 // The number, the line and the length of a refusal.
 pub fn told_of(r: Refusal) -> Answer

@@ -5,10 +5,9 @@ use mathlib.Core.Path.{_≡_, sym, ap, _∙_}
 use lib.ListN.{take}
 use Rattle.text.specs.Keys.{sheetLines, certificateLines}
 use Rattle.text.specs.Lines.{longest}
-use Rattle.certificate.specs.Outcome.{checked}
 use Rattle.certificate.proofs.Promises.{cut-sheet, cut-certificate}
 use Rattle.report.specs.Printed.{outcomePrints, certifyPrints, verifyPrints}
-use Rattle.report.proofs.Answers.{answerPrints, found-prints}
+use Rattle.report.proofs.Answers.{answerPrints, check-prints}
 
 pub certify-cut : (s : List ℕ) (m : ℕ) → longest sheetLines < m → certifyPrints (take m s) ≡ certifyPrints s
 unfolding certifyPrints
@@ -17,4 +16,4 @@ certify-cut s m h = ap outcomePrints (cut-sheet s m (longest certificateLines) h
 pub verify-cut : (c : List ℕ) (m : ℕ) → longest certificateLines < m → verifyPrints (take m c) ≡ verifyPrints c
 unfolding verifyPrints
 verify-cut c m h =
-    found-prints (take m c) (checked (take m c)) ∙ ap answerPrints (cut-certificate c m h) ∙ sym (found-prints c (checked c))
+    check-prints (take m c) ∙ ap answerPrints (cut-certificate c m h) ∙ sym (check-prints c)

@@ -6,12 +6,12 @@ use lib.ListN.{length}
 use Rattle.text.specs.Keys.{bytes, newline, certificateLines}
 use Rattle.text.specs.Decimal.{decimal}
 use Rattle.text.specs.Lines.{longest}
-use Rattle.certificate.specs.declared.Answer.{Answer}
-use Rattle.certificate.specs.declared.Found.{Found}
-use Rattle.certificate.specs.declared.Found.the-variants.{Refused, Met}
+use Rattle.questions.specs.declared.Answer.{Answer}
+use Rattle.questions.specs.Asking.{Finding, refusal, met}
+use Rattle.questions.specs.Outcomes.{Outcome, refused, written}
+use Rattle.certificate.specs.declared.Refusal.{Refusal}
 use Rattle.certificate.specs.Refusals.{told}
 use Rattle.certificate.specs.Outcome.{outcome, checked}
-use Rattle.certificate.specs.Answers.{Outcome, refused, written}
 
 -- a line key=number; the key has its '='
 unfoldable pub numberLine : List ℕ → ℕ → List ℕ
@@ -22,7 +22,7 @@ unfoldable pub refusalLines : Answer → List ℕ
 refusalLines a = numberLine (bytes "refused=") (a .refusal) ++ numberLine (bytes "line=") (a .line)
 
 -- of what writing does
-unfoldable pub outcomePrints : Outcome → List ℕ
+unfoldable pub outcomePrints : Outcome Refusal → List ℕ
 outcomePrints (written t) = t
 outcomePrints (refused r) = refusalLines (told r)
 
@@ -31,9 +31,9 @@ unfoldable pub certifyPrints : List ℕ → List ℕ
 certifyPrints s = outcomePrints (outcome s (longest certificateLines))
 
 -- of what checking finds in the certificate c
-unfoldable pub foundPrints : List ℕ → Found → List ℕ
-foundPrints c Met = numberLine (bytes "passed=") (length c)
-foundPrints c (Refused r) = refusalLines (told r)
+unfoldable pub foundPrints : List ℕ → Finding Refusal → List ℕ
+foundPrints c met = numberLine (bytes "passed=") (length c)
+foundPrints c (refusal r) = refusalLines (told r)
 
 -- `verify`, for a certificate: that it passed, with its length, or the refusal
 unfoldable pub verifyPrints : List ℕ → List ℕ

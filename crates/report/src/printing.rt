@@ -1,6 +1,6 @@
 // What the programs print for the bytes that they read: specs/Printed.
-use certificate::Answer;
 use certificate::certificates;
+use questions::Answer;
 use text::LONGEST_CERTIFICATE;
 use text::decimal;
 ghost use mathlib.Core.Path.{_≡_};

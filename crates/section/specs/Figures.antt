@@ -4,7 +4,7 @@ use mathlib.Core.Bool.{Bool}
 use lib.IntN.{ℤ, pos, _*ℤ_}
 use Rattle.pair.specs.Integers.{_≤ℤ_, floorOver, ceilOver}
 use Rattle.section.specs.declared.Sheet.{Sheet}
-use Rattle.section.specs.Claims.{Claim, _≤?_, Holds, test}
+use Rattle.questions.specs.Claims.{Claim, _≤?_, Holds, test}
 use Rattle.section.specs.Working.{S, Worked, worked}
 
 pub record Printed : Type 0 where

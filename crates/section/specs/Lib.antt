@@ -1,4 +1,3 @@
-pub mod Claims
 pub mod Sheets
 pub mod Sound
 pub mod Working

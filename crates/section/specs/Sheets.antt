@@ -2,7 +2,7 @@
 -- Each claim stands once, here with its numbers; crate certificate asks the claims in order, each with its refusal.
 use Prim.Native.Nat.{ℕ, _-_, _*_}
 use Rattle.section.specs.declared.Span.{Span}
-use Rattle.section.specs.Claims.{Claim, _≤?_, _≡?_, _and_}
+use Rattle.questions.specs.Claims.{Claim, _≤?_, _≡?_, _and_}
 
 -- from `least` to `most`, both included
 infix 80 _upto_

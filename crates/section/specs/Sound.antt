@@ -4,7 +4,7 @@ use Prim.Native.Nat.{ℕ, _≤_}
 use mathlib.Core.Logic.{_⊎_}
 use Rattle.section.specs.declared.Sheet.{Sheet}
 use Rattle.section.specs.declared.Span.{Span}
-use Rattle.section.specs.Claims.{Holds}
+use Rattle.questions.specs.Claims.{Holds}
 use Rattle.section.specs.Sheets.{span-of, core-within, width, lip-length, depth, lip-long, lip-short, radius-core, radius-flange, mid-line-lip, form-z, lips-apart}
 
 pub record Within (s : Span) (v : ℕ) : Type 0 where

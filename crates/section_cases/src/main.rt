@@ -8,8 +8,8 @@ mod stiffness;
 mod trace;
 
 use certificate::Found;
-use certificate::questions;
 use certificate::refusals;
+use certificate::verdicts;
 use section::Core;
 use section::Nominal;
 use section::Sheet;
@@ -85,7 +85,7 @@ fn work(q: Sheet)
 }
 
 fn run(q: Sheet) {
-    let found = questions::first_refusal(q);
+    let found = verdicts::first_refusal(q);
     match found {
         Found::Refused(r) => print::refused(refusals::told_of(r)),
         Found::Met => work(q),

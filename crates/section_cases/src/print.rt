@@ -1,9 +1,9 @@
 // What is printed.
-use certificate::Answer;
 use libc::STDOUT_FILENO;
 use pair::Pair;
 use pair::signed::Integer;
 use pair::signed::Signed;
+use questions::Answer;
 use section::Figures;
 use section::Work;
 

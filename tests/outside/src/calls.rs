@@ -1,32 +1,32 @@
-//! The calls of the archive, as include/certificate.h declares them.
+//! The calls of the archive, as include/honemagenta.h declares them.
 
 use reference::text::Answer;
 use reference::with_sheet_numbers;
 
 extern "C" {
-    fn certificate_write(
+    fn hm_certificate_write(
         sheet: *const u8,
         sheet_len: usize,
         buffer: *mut u8,
         buffer_len: usize,
     ) -> Answer;
 
-    fn certificate_check(certificate: *const u8, certificate_len: usize) -> Answer;
+    fn hm_certificate_check(certificate: *const u8, certificate_len: usize) -> Answer;
 }
 
 pub fn write(sheet: &[u8], buffer: &mut [u8]) -> Answer {
     let (room, buffer) = (buffer.len(), buffer.as_mut_ptr());
-    unsafe { certificate_write(sheet.as_ptr(), sheet.len(), buffer, room) }
+    unsafe { hm_certificate_write(sheet.as_ptr(), sheet.len(), buffer, room) }
 }
 
 pub fn check(certificate: &[u8]) -> Answer {
-    unsafe { certificate_check(certificate.as_ptr(), certificate.len()) }
+    unsafe { hm_certificate_check(certificate.as_ptr(), certificate.len()) }
 }
 
 macro_rules! declare_from_numbers {
     ($($number:ident),*) => {
         extern "C" {
-            fn certificate_from_numbers(
+            fn hm_certificate_from_numbers(
                 $($number: u64,)*
                 buffer: *mut u8,
                 buffer_len: usize,
@@ -35,7 +35,7 @@ macro_rules! declare_from_numbers {
 
         pub fn from_numbers([$($number),*]: [u64; 12], buffer: &mut [u8]) -> Answer {
             let (room, buffer) = (buffer.len(), buffer.as_mut_ptr());
-            unsafe { certificate_from_numbers($($number,)* buffer, room) }
+            unsafe { hm_certificate_from_numbers($($number,)* buffer, room) }
         }
     };
 }

@@ -94,15 +94,15 @@ fn of_reference(call: Call, buffer: &mut [u8]) -> Answer {
 fn difference(call: Call, room: usize, seen: (Answer, &[u8]), expected: (Answer, &[u8])) -> String {
     let mut report = match call {
         Call::Write(sheet) => format!(
-            "certificate_write, a buffer of {room} bytes, on what this prints:\n    printf '{}'\n",
+            "hm_certificate_write, a buffer of {room} bytes, on what this prints:\n    printf '{}'\n",
             for_printf(sheet)
         ),
         Call::Check(certificate) => format!(
-            "certificate_check, on what this prints:\n    printf '{}'\n",
+            "hm_certificate_check, on what this prints:\n    printf '{}'\n",
             for_printf(certificate)
         ),
         Call::FromNumbers(numbers) => format!(
-            "certificate_from_numbers({}, buffer, {room})\n",
+            "hm_certificate_from_numbers({}, buffer, {room})\n",
             numbers.map(|n| n.to_string()).join(", ")
         ),
     };

@@ -28,3 +28,6 @@ pub mod limits;
 pub mod named;
 pub mod random;
 pub mod thresholds;
+
+/// Files of the repository that constants and words are read from.
+pub mod repository;

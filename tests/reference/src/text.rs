@@ -17,7 +17,7 @@ pub const LONGEST_SHEET: usize = 168;
 /// No certificate is longer: a shift may have a minus, too.
 pub const LONGEST_CERTIFICATE: usize = 273;
 
-/// What a call returns, as include/certificate.h has it: 0 or the number of the
+/// What a call returns, as include/honemagenta.h has it: 0 or the number of the
 /// refusal, a line and a length.
 #[repr(C)]
 #[derive(Clone, Copy, Debug, PartialEq, Eq)]

@@ -1,11 +1,10 @@
 //! The longest texts, and the constants that say how long they are.
 
 use reference::cases::{each_line_changed, longest_certificate, longest_sheet};
+use reference::repository::file_text;
 use reference::text::{
     printed, printed_check, read_certificate, read_sheet, LONGEST_CERTIFICATE, LONGEST_SHEET,
 };
-use std::fs;
-use std::path::Path;
 
 /// Asserts that a text is spelt right and so long, and that no line of it may
 /// have a digit more.
@@ -45,8 +44,7 @@ fn the_longest_texts_are_refused() {
 
 /// The number behind the words with which one line of a file begins.
 fn constant(file: &str, words: &str) -> usize {
-    let repository = Path::new(env!("CARGO_MANIFEST_DIR")).join("../..");
-    let text = fs::read_to_string(repository.join(file)).expect(file);
+    let text = file_text(file);
     let found: Vec<&str> = text.lines().filter_map(|l| l.strip_prefix(words)).collect();
     let [rest] = found[..] else {
         panic!("{file} has {} lines {words}", found.len());
@@ -60,8 +58,8 @@ fn constant(file: &str, words: &str) -> usize {
 fn the_constants_of_header_code_and_example_are_the_same() {
     for (file, words, longest) in [
         (
-            "include/certificate.h",
-            "#define CERTIFICATE_LONGEST ",
+            "include/honemagenta.h",
+            "#define HM_CERTIFICATE_LONGEST ",
             LONGEST_CERTIFICATE,
         ),
         (
@@ -74,7 +72,11 @@ fn the_constants_of_header_code_and_example_are_the_same() {
             "pub const LONGEST_SHEET: usize = ",
             LONGEST_SHEET,
         ),
-        ("examples/certificate.py", "LONGEST = ", LONGEST_CERTIFICATE),
+        (
+            "examples/honemagenta.py",
+            "CERTIFICATE_LONGEST = ",
+            LONGEST_CERTIFICATE,
+        ),
     ] {
         assert_eq!(constant(file, words), longest, "{file}: {words}");
     }

@@ -1,5 +1,5 @@
 -- `section_cases::run` is safe: a section that no question refuses is sound.
-use mathlib.Core.Path.{sym, _∙_}
+use Rattle.certificate.proofs.Steps.{found-met}
 use Rattle.certificate.proofs.Theorems.{met-is-sound}
 use borrow.Author.Needs.{needs}
 use Rattle.section_cases.proofs.run.Statement.{statement}
@@ -21,7 +21,7 @@ enum-told : tie.Need-enum-told
 enum-told c = search needs
 
 work-requires : tie.Need-work-requires
-work-requires c κs = met-is-sound _ .0 (sym (c .before .before .first-refusal .ensures) ∙ c .enum-told .given .1)
+work-requires c κs = met-is-sound _ .0 (found-met _ (c .before .before .first-refusal .ensures) (c .enum-told .given .1))
 
 returns : tie.Need-returns
 returns c = search needs

@@ -6,6 +6,7 @@
 
 use reference::cases::{certificate_of, certificates, sheets, text_of, z_section};
 use reference::named::{SHEET_A, SHEET_B};
+use reference::repository::refusal_words;
 use reference::sheet::Sheet;
 use reference::text::{
     check, printed, printed_check, write_from_numbers, write_from_text, Answer, LONGEST_CERTIFICATE,
@@ -99,7 +100,7 @@ fn examples(folder: &Path) -> io::Result<()> {
     put(&examples.join("output.txt"), example_output())
 }
 
-/// What examples/certificate.c and certificate.py print.
+/// What examples/certificate.c and honemagenta.py print.
 fn example_output() -> String {
     let certificate = certificate_of(SHEET_B);
     let mut changed = certificate.clone().into_bytes();
@@ -130,9 +131,12 @@ fn told(what: &str, answer: Answer) -> String {
         line,
         length,
     } = answer;
+    if refusal == 0 {
+        return format!("{what}: in order, {length} bytes\n");
+    }
+    let words = &refusal_words()[refusal as usize - 1];
     match refusal {
-        0 => format!("{what}: in order, {length} bytes\n"),
-        12 => format!("{what}: the buffer is too short, {length} bytes are needed\n"),
-        _ => format!("{what}: refused, question {refusal}, line {line}\n"),
+        12 => format!("{what}: {words}, {length} bytes are needed\n"),
+        _ => format!("{what}: refused, question {refusal}, line {line}: {words}\n"),
     }
 }

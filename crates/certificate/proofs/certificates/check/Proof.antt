@@ -1,9 +1,11 @@
 -- `certificate::certificates::check` meets its contract.
 use borrow.Author.Needs.{needs}
-use mathlib.Core.Path.{_≡_, _∙_}
+use mathlib.Core.Path.{_≡_}
 use Rattle.text.specs.Keys.{certificateLines}
 use Rattle.text.proofs.Theorems.{verdict-right, verdict-bad}
+use Rattle.certificate.specs.Questions.{foundOf}
 use Rattle.certificate.specs.Outcome.{checked}
+use Rattle.certificate.proofs.Steps.{found-refused, found-met}
 use Rattle.certificate.proofs.OutcomeSteps.{bad-certificate, found-in-lines, answers-unlike, answers-passed}
 use Rattle.certificate.proofs.certificates.check.Statement.{statement}
 use Rattle.certificate.proofs.certificates.check.Tie as tie
@@ -39,20 +41,20 @@ returns : tie.Need-returns
 returns c =
     let r = c .before .before .before .before .before .read-lines in
     let bytes = c .before .before .before .before .before .before .before .args .certificate .now in
-    answers-unlike bytes _ _ _
+    answers-unlike bytes _ _
     (bad-certificate bytes _ (verdict-bad certificateLines bytes (r .ensures) (c .before .before .verdict .given .1))) (c .told-of .ensures)
 
 -- what is found where all lines are right
-found : (c : tie.After-compared) → checked (c .before .before .before .before .before .before .args .certificate .now) ≡ c .compared .result
+found : (c : tie.After-compared) → c .compared .result ≡ foundOf (checked (c .before .before .before .before .before .before .args .certificate .now))
 found c =
     let bytes = c .before .before .before .before .before .before .args .certificate .now in
     found-in-lines bytes _ _ (verdict-right certificateLines bytes (c .before .before .before .before .read-lines .ensures) (c .before .enum-told .given .1)) (c .compared .ensures)
 
 returns-2 : tie.Need-returns-2
-returns-2 c = answers-unlike _ _ _ _ (found (c .before .before .before .before) ∙ c .before .before .found .given .1) (c .told-of2 .ensures)
+returns-2 c = answers-unlike _ _ _ (found-refused _ (found (c .before .before .before .before)) (c .before .before .found .given .1)) (c .told-of2 .ensures)
 
 returns-3 : tie.Need-returns-3
-returns-3 c = answers-passed _ _ _ (found (c .before .before .before) ∙ c .before .enum-told2 .given .1) (c .answer .ensures)
+returns-3 c = answers-passed _ _ (found-met _ (found (c .before .before .before)) (c .before .enum-told2 .given .1)) (c .answer .ensures)
 
 pub check-spec : {M : Type 1} → statement M
 check-spec =

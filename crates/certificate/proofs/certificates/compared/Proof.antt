@@ -7,7 +7,8 @@ use lib.ListN.{length, drop}
 use Rattle.section.specs.declared.Sheet.{Sheet}
 use Rattle.text.specs.Keys.{sheetLines, certificateLines}
 use Rattle.text.specs.Forms.{integers}
-use Rattle.certificate.specs.Questions.{firstOf, firstIn, verdict}
+use Rattle.questions.specs.Asking.{firstOf, firstIn}
+use Rattle.certificate.specs.Questions.{foundOf, verdict}
 use Rattle.certificate.specs.Certificates.{certificateValues}
 use Rattle.certificate.specs.Outcome.{agreeing, checking}
 use Rattle.certificate.proofs.Shown.{integers-of, behind-sheet}
@@ -41,9 +42,10 @@ returns : tie.Need-returns
 returns c =
     let vs = integers (c .before .before .before .before .before .args .shown) in
     let shown = c .before .before .before .before .sheet-shown in
-    sym (refused-checking (shown .result) vs (judged-refusal (verdict (shown .result)) (c .before .before .before .verdict-of .ensures) (c .before .verdict .given .1)))
+    ap foundOf
+    (sym (refused-checking (shown .result) vs (judged-refusal (verdict (shown .result)) (c .before .before .before .verdict-of .ensures) (c .before .verdict .given .1)))
     ∙ ap (λ (q : Sheet). firstIn (checking vs q)) (shown .ensures)
-    ∙ sym (found-in-array (c .before .before .before .before .before .args .shown) (count (c .before .before .before .before .before)))
+    ∙ sym (found-in-array (c .before .before .before .before .before .args .shown) (count (c .before .before .before .before .before))))
 
 returns-2 : tie.Need-returns-2
 unfolding certificateValues
@@ -52,10 +54,11 @@ returns-2 c =
     let shown = c .before .before .before .before .before .before .sheet-shown in
     let found = judged-figures (shown .result) (c .before .before .before .before .before .verdict-of .ensures) (c .before .before .before .verdict2 .given .1) in
     c .first-unlike .ensures
-    ∙ ap (λ (ws : List ℤ). firstOf (agreeing 13 (drop sheetLines vs) ws)) (ap (drop sheetLines) (integers-of (certificateValues (shown .result)) (c .before .line-values .ensures)) ∙ behind-sheet (shown .result) _)
+    ∙ ap foundOf
+    (ap (λ (ws : List ℤ). firstOf (agreeing 13 (drop sheetLines vs) ws)) (ap (drop sheetLines) (integers-of (certificateValues (shown .result)) (c .before .line-values .ensures)) ∙ behind-sheet (shown .result) _)
     ∙ sym (figures-asked (shown .result) vs (found .0))
     ∙ ap (λ (q : Sheet). firstIn (checking vs q)) (shown .ensures)
-    ∙ sym (found-in-array (c .before .before .before .before .before .before .before .args .shown) (count (c .before .before .before .before .before .before .before)))
+    ∙ sym (found-in-array (c .before .before .before .before .before .before .before .args .shown) (count (c .before .before .before .before .before .before .before))))
 
 pub compared-spec : {M : Type 1} → statement M
 compared-spec =

@@ -2,7 +2,7 @@
 use Prim.Native.Nat.{ℕ, _+_, _-_, _≤_, _<_}
 use mathlib.Core.List.{List}
 use mathlib.Core.Bool.{false}
-use mathlib.Core.Path.{_≡_, refl, sym, _∙_}
+use mathlib.Core.Path.{_≡_, refl, sym, ap, _∙_}
 use lib.IntN.{ℤ}
 use lib.ListN.{length, drop, length-map}
 use borrow.Author.Tests.{not-true, not-false}
@@ -12,8 +12,9 @@ use Rattle.pair.specs.Forms.{integer}
 use Rattle.pair.specs.declared.signed.Integer.{Integer}
 use Rattle.text.specs.Keys.{sheetLines, certificateLines}
 use Rattle.text.specs.Forms.{integers}
-use Rattle.section.specs.Claims.{_is_, test}
-use Rattle.certificate.specs.Questions.{firstOf}
+use Rattle.questions.specs.Claims.{_is_, test}
+use Rattle.questions.specs.Asking.{firstOf}
+use Rattle.certificate.specs.Questions.{foundOf}
 use Rattle.certificate.specs.Certificates.{valueAt}
 use Rattle.certificate.specs.Outcome.{agreeing}
 use Rattle.certificate.proofs.Shown.{integer-at}
@@ -91,7 +92,7 @@ module _ (c : tie.After-same Inv-loop μ-loop) where
 returns : tie.Need-returns Inv-loop μ-loop
 returns c =
     let t = c .before in
-    sym (turn t .before .loop .inv .2 ∙ line-differs (i t + 1) (vs t) (ws t) (i t) (in-shown t) (in-worked t) (sym (asked t) ∙ not-true _ (c .if1 .taken)))
+    sym (ap foundOf (turn t .before .loop .inv .2 ∙ line-differs (i t + 1) (vs t) (ws t) (i t) (in-shown t) (in-worked t) (sym (asked t) ∙ not-true _ (c .if1 .taken))))
 
 add-i : tie.Need-add-i Inv-loop μ-loop
 add-i c = search needs
@@ -111,7 +112,7 @@ returns-2 : tie.Need-returns-2 Inv-loop μ-loop
 returns-2 c =
     let head = c .before in
     let a = head .before .args in
-    sym (head .loop .inv .2 ∙ lines-agree (head .loop .i + 1) (integers (a .t1)) (integers (a .t2)) (head .loop .i) (omega (arith, counts (head .before), length-map (a .t1) integer, c .loop-test .left)))
+    sym (ap foundOf (head .loop .inv .2 ∙ lines-agree (head .loop .i + 1) (integers (a .t1)) (integers (a .t2)) (head .loop .i) (omega (arith, counts (head .before), length-map (a .t1) integer, c .loop-test .left))))
 
 pub first-unlike-spec : {M : Type 1} → statement M
 first-unlike-spec =

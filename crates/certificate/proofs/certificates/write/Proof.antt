@@ -8,7 +8,9 @@ use Rattle.text.specs.Forms.{integers}
 use Rattle.text.proofs.Theorems.{verdict-right, verdict-bad}
 use Rattle.certificate.specs.Certificates.{sheetShown}
 use Rattle.certificate.specs.Outcome.{outcomeOf}
-use Rattle.certificate.specs.Answers.{Outcome, answerOf, bufferAfter}
+use Rattle.questions.specs.Outcomes.{Outcome, answerOf, bufferAfter}
+use Rattle.certificate.specs.declared.Refusal.{Refusal}
+use Rattle.certificate.specs.Refusals.{told}
 use Rattle.certificate.proofs.Shown.{front-shown, integers-front}
 use Rattle.certificate.proofs.OutcomeSteps.{bad-sheet, right-sheet, answers-refusal}
 use Rattle.certificate.proofs.certificates.write.Statement.{statement}
@@ -51,7 +53,7 @@ returns-2 c =
     ap (λ (q : Sheet). outcomeOf q (length b)) (c .before .before .before .before .sheet-shown .ensures ∙ sym (ap sheetShown (integers-front sheetLines (r .result .values)) ∙ front-shown (integers (r .result .values))))
     ∙ sym (right-sheet (a .sheet .now) (length b) _ (verdict-right sheetLines (a .sheet .now) (r .ensures) (c .before .before .before .before .before .enum-told .given .1))) in
     let w = c .before .before .write-sheet .ensures in
-    (w .0 ∙ ap answerOf o, w .1 ∙ ap (λ (x : Outcome). bufferAfter x b) o)
+    (w .0 ∙ ap (answerOf told) o, w .1 ∙ ap (λ (x : Outcome Refusal). bufferAfter x b) o)
 
 pub write-spec : {M : Type 1} → statement M
 write-spec =

@@ -9,8 +9,10 @@ use Rattle.text.specs.Keys.{certificateLines}
 use Rattle.text.specs.Lines.{linesText, longest}
 use Rattle.certificate.specs.Questions.{verdict}
 use Rattle.certificate.specs.Certificates.{certificateValues}
-use Rattle.certificate.specs.Outcome.{fitted}
-use Rattle.certificate.specs.Answers.{Outcome, answerOf, bufferAfter}
+use Rattle.questions.specs.Outcomes.{Outcome, fitted, answerOf, bufferAfter}
+use Rattle.certificate.specs.declared.Refusal.{Refusal}
+use Rattle.certificate.specs.declared.Refusal.the-variants.{Room}
+use Rattle.certificate.specs.Refusals.{told}
 use Rattle.certificate.proofs.Shown.{integers-of}
 use Rattle.certificate.proofs.OutcomeSteps.{judged-refusal, judged-figures, refused-by-verdict, room-asked, accepted-length, answers-refusal}
 use Rattle.certificate.proofs.certificates.write_sheet.Statement.{statement}
@@ -55,10 +57,10 @@ returns-2 c =
     let a = c .before .before .before .before .before .before .before .before .before .before .args in
     let b = a .buffer .now in
     let o =
-    ap (λ (vs : List ℤ). fitted (length b) (linesText vs)) (integers-of (certificateValues (a .q)) (c .before .before .before .before .line-values .ensures))
+    ap (λ (vs : List ℤ). fitted Room (length b) (linesText vs)) (integers-of (certificateValues (a .q)) (c .before .before .before .before .line-values .ensures))
     ∙ sym (room-asked (a .q) (length b) (judged-figures (a .q) (c .before .before .before .before .before .before .before .before .verdict-of .ensures) (c .before .before .before .before .before .before .verdict2 .given .1) .0)) in
     let w = c .before .before .put .ensures in
-    (w .0 ∙ ap answerOf o, w .1 ∙ ap (λ (x : Outcome). bufferAfter x b) o)
+    (w .0 ∙ ap (answerOf told) o, w .1 ∙ ap (λ (x : Outcome Refusal). bufferAfter x b) o)
 
 pub write-sheet-spec : {M : Type 1} → statement M
 write-sheet-spec =

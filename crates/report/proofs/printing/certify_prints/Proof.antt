@@ -7,9 +7,11 @@ use lib.ListN.{length}
 use Rattle.text.specs.Keys.{certificateLines}
 use Rattle.text.specs.Lines.{over, longest}
 use Rattle.text.proofs.Theorems.{longest-certificate}
-use Rattle.certificate.specs.declared.Answer.{Answer}
+use Rattle.questions.specs.declared.Answer.{Answer}
+use Rattle.questions.specs.Outcomes.{Outcome, answerOf, bufferAfter}
+use Rattle.certificate.specs.declared.Refusal.{Refusal}
+use Rattle.certificate.specs.Refusals.{told}
 use Rattle.certificate.specs.Outcome.{outcome}
-use Rattle.certificate.specs.Answers.{Outcome, answerOf, bufferAfter}
 use Rattle.report.specs.Printed.{refusalLines, certifyPrints}
 use Rattle.report.proofs.Answers.{certificate-printed, refusal-printed}
 use Rattle.report.proofs.printing.certify_prints.Statement.{statement}
@@ -36,11 +38,11 @@ module _ (c : tie.After-write) where
   abbrev B : List ℕ
   B = c .before .before .before .args .out .now
 
-  abbrev o : Outcome
+  abbrev o : Outcome Refusal
   o = outcome S (longest certificateLines)
 
-  answered : c .write .result ≡ answerOf o
-  answered = c .write .ensures .0 ∙ ap (λ (n : ℕ). answerOf (outcome S n)) (room (c .before))
+  answered : c .write .result ≡ answerOf told o
+  answered = c .write .ensures .0 ∙ ap (λ (n : ℕ). answerOf told (outcome S n)) (room (c .before))
 
   left : c .write .last .1 .0 ≡ bufferAfter o B
   left = c .write .ensures .1 ∙ ap (λ (n : ℕ). bufferAfter (outcome S n) B) (room (c .before))

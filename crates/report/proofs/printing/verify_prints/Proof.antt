@@ -5,9 +5,8 @@ use mathlib.Core.List.{List}
 use mathlib.Core.Path.{_≡_, sym, ap, _∙_}
 use lib.ListN.{length}
 use Rattle.text.specs.Lines.{over}
-use Rattle.certificate.specs.Outcome.{checked}
 use Rattle.report.specs.Printed.{verifyPrints}
-use Rattle.report.proofs.Answers.{answerPrints, passed-prints, refusal-prints, found-prints}
+use Rattle.report.proofs.Answers.{answerPrints, passed-prints, refusal-prints, check-prints}
 use Rattle.report.proofs.printing.verify_prints.Statement.{statement}
 use Rattle.report.proofs.printing.verify_prints.Tie as tie
 
@@ -20,7 +19,7 @@ put-refusal-requires c κs = search needs
 -- what is printed of the answer
 prints : (c : tie.After-check) → answerPrints (c .check .result) ≡ verifyPrints (c .before .before .args .certificate .now)
 unfolding verifyPrints
-prints c = let s = c .before .before .args .certificate .now in ap answerPrints (c .check .ensures) ∙ sym (found-prints s (checked s))
+prints c = let s = c .before .before .args .certificate .now in ap answerPrints (c .check .ensures) ∙ sym (check-prints s)
 
 returns : tie.Need-returns
 returns c =

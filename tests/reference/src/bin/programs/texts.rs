@@ -8,6 +8,7 @@ use reference::chance::{Chance, SEED};
 use reference::damage::{damaged, moved, FAULTS};
 use reference::named::{SHEET_A, SHEET_B};
 use reference::random::any_section;
+use reference::repository::in_repository;
 use reference::sheet::ask_numbers;
 use reference::text::{certificate_text, sheet_text, LONGEST_CERTIFICATE, LONGEST_SHEET};
 use std::path::{Path, PathBuf};
@@ -46,11 +47,6 @@ fn kept() -> Vec<Text> {
         .chain(certificates)
         .map(|(kind, case)| text(format!("{kind} {}", case.name), case.text))
         .collect()
-}
-
-fn in_repository(path: &str) -> PathBuf {
-    let repository = Path::new(env!("CARGO_MANIFEST_DIR")).join("../..");
-    repository.join(path)
 }
 
 /// The texts of crates/text_cases: behind a letter s or c, in hexadecimal digits.

@@ -1,0 +1,13 @@
+-- `certificate::verdicts::within` meets its contract.
+use borrow.Author.Tests.{le-leb, lt-leb}
+use Rattle.certificate.proofs.verdicts.within.Statement.{statement}
+use Rattle.certificate.proofs.verdicts.within.Tie as tie
+
+returns : tie.Need-returns
+returns c = simp (le-leb _ _ (c .before .if1 .taken))
+
+returns-2 : tie.Need-returns-2
+returns-2 c = simp (lt-leb _ _ (c .if1 .left))
+
+pub within-spec : {M : Type 1} → statement M
+within-spec = tie.close (tie.spec returns returns-2)

@@ -1,0 +1,249 @@
+// The questions on twelve numbers, in the paper's order: the first "no" decides.
+// (docs/WORKING.md, 15.)
+use crate::Found;
+use crate::Refusal;
+use crate::Verdict;
+use section::Sheet;
+use section::Span;
+use section::sections;
+ghost use mathlib.Core.Path.{_≡_};
+ghost use Prim.Native.Nat.{_≤_};
+ghost use Rattle.questions.specs.Claims.{test};
+ghost use Rattle.section.specs.Sound.{Question2, Sound};
+ghost use Rattle.section.specs.Figures.{figures};
+ghost use Rattle.questions.specs.Asking.{firstOf, First};
+ghost use Rattle.certificate.specs.Questions.{ranges, ranged, question11, foundOf, from, firstRefusal, judged, verdict, verdictOf};
+ghost use Rattle.section.specs.Sheets.{inside, lip};
+
+// The ranges, in the order of the lines.
+const RANGES: [Span; 12] = [
+    Span { least: 0, most: 1 },
+    Span {
+        least: 4000,
+        most: 50_000,
+    },
+    Span {
+        least: 2000,
+        most: 20_000,
+    },
+    Span {
+        least: 2000,
+        most: 20_000,
+    },
+    Span {
+        least: 500,
+        most: 12_000,
+    },
+    Span {
+        least: 0,
+        most: 3000,
+    },
+    Span {
+        least: 50,
+        most: 600,
+    },
+    Span {
+        least: 45,
+        most: 600,
+    },
+    Span {
+        least: 200,
+        most: 700,
+    },
+    Span {
+        least: 1000,
+        most: 1500,
+    },
+    Span { least: 0, most: 8 },
+    Span {
+        least: 0,
+        most: 1000,
+    },
+];
+
+// The lines of the flanges.
+const FLANGE_1: u64 = 3;
+
+const FLANGE_2: u64 = 4;
+
+fn within(span: Span, v: u64) -> bool
+    ensures { λ r. ⌜ r ≡ test (inside span v) ⌝ }
+{
+    span.least <= v && v <= span.most
+}
+
+// Question 2: the first line whose value is out of its range.
+fn range(values: [u64; 12]) -> Found
+    ensures { λ f. ⌜ f ≡ foundOf (firstOf (ranged 1 ranges values)) ⌝ }
+{
+    let ranges = RANGES;
+    let mut i = 0;
+    while i < 12 {
+        let span = ranges[i];
+        let v = values[i];
+        if !within(span, v) {
+            let line = i as u64 + 1;
+            return Found::Refused(Refusal::Range(line));
+        }
+        i += 1;
+    }
+    Found::Met
+}
+
+// Question 3, and those behind it: t <= tnom.
+fn thickness(q: Sheet) -> Found
+    requires { ⌜ Question2 q ⌝ }
+    ensures { λ f. ⌜ First foundOf (from 3 q) f ⌝ }
+{
+    let tnom = q.tnom;
+    let t = q.t;
+    if tnom.0 < t.0 {
+        return Found::Refused(Refusal::Thickness);
+    }
+    widths(q)
+}
+
+// Questions 4 to 6, and those behind them: b <= 60t, flange 1 then 2; c <= 50t; h <= 500t.
+fn widths(q: Sheet) -> Found
+    requires { ⌜ Question2 q ⌝ }
+    ensures { λ f. ⌜ First foundOf (from 4 q) f ⌝ }
+{
+    let t = q.t;
+    if 60 * t.0 < q.b1 {
+        return Found::Refused(Refusal::FlangeWidth(FLANGE_1));
+    }
+    if 60 * t.0 < q.b2 {
+        return Found::Refused(Refusal::FlangeWidth(FLANGE_2));
+    }
+    if 50 * t.0 < q.c {
+        return Found::Refused(Refusal::LipLength);
+    }
+    if 500 * t.0 < q.h {
+        return Found::Refused(Refusal::Depth);
+    }
+    lips(q)
+}
+
+// Whether the lip suits a flange: b <= 5c and 5c <= 3b.
+fn lip_suits(b: u64, c: u64) -> bool
+    requires { ⌜ (b ≤ 20000) × (c ≤ 12000) ⌝ }
+    ensures { λ r. ⌜ r ≡ test (lip b c) ⌝ }
+{
+    b <= 5 * c && 5 * c <= 3 * b
+}
+
+// Question 7, and those behind it: the lip beside flange 1, then 2.
+fn lips(q: Sheet) -> Found
+    requires { ⌜ Question2 q ⌝ }
+    ensures { λ f. ⌜ First foundOf (from 7 q) f ⌝ }
+{
+    if !lip_suits(q.b1, q.c) {
+        return Found::Refused(Refusal::LipRatio(FLANGE_1));
+    }
+    if !lip_suits(q.b2, q.c) {
+        return Found::Refused(Refusal::LipRatio(FLANGE_2));
+    }
+    radius(q)
+}
+
+// Question 8, and those behind it: r <= 5t and 10r <= bp1 and 10r <= bp2.
+fn radius(q: Sheet) -> Found
+    requires { ⌜ Question2 q ⌝ }
+    ensures { λ f. ⌜ First foundOf (from 8 q) f ⌝ }
+{
+    let tnom = q.tnom;
+    let t = q.t;
+    let r = 10 * q.r;
+    if 5 * t.0 < q.r {
+        return Found::Refused(Refusal::Radius);
+    }
+    if q.b1 - tnom.0 < r {
+        return Found::Refused(Refusal::Radius);
+    }
+    if q.b2 - tnom.0 < r {
+        return Found::Refused(Refusal::Radius);
+    }
+    mid_lines(q)
+}
+
+// Question 9, and the one behind it: 5cp <= 3bp, flange 1 then 2, both sides doubled, since cp
+// may have half hundredths.
+fn mid_lines(q: Sheet) -> Found
+    requires { ⌜ Question2 q ⌝ }
+    ensures { λ f. ⌜ First foundOf (from 9 q) f ⌝ }
+{
+    let tnom = q.tnom;
+    let lip = 5 * (2 * q.c - tnom.0);
+    if 6 * (q.b1 - tnom.0) < lip {
+        return Found::Refused(Refusal::MidLineRatio(FLANGE_1));
+    }
+    if 6 * (q.b2 - tnom.0) < lip {
+        return Found::Refused(Refusal::MidLineRatio(FLANGE_2));
+    }
+    form(q)
+}
+
+// Question 10: form Z, or 2c <= h.
+fn form(q: Sheet) -> Found
+    requires { ⌜ Question2 q ⌝ }
+    ensures { λ f. ⌜ First foundOf (from 10 q) f ⌝ }
+{
+    if q.form == 1 {
+        return Found::Met;
+    }
+    if 2 * q.c <= q.h {
+        return Found::Met;
+    }
+    Found::Refused(Refusal::Form)
+}
+
+// The first of questions 2 to 10 that twelve numbers do not meet.
+pub fn first_refusal(q: Sheet) -> Found
+    ensures { λ f. ⌜ f ≡ foundOf (firstRefusal q) ⌝ }
+{
+    let tnom = q.tnom;
+    let t = q.t;
+    let found = range([
+        q.form,
+        q.h,
+        q.b1,
+        q.b2,
+        q.c,
+        q.r,
+        tnom.0,
+        t.0,
+        q.fyb,
+        q.gm0,
+        q.rounds,
+        q.allow,
+    ]);
+    match found {
+        Found::Refused(r) => Found::Refused(r),
+        Found::Met => thickness(q),
+    }
+}
+
+// Question 11: whether the area's upper end is at most area + allow. If so, the figures.
+fn allowance(q: Sheet) -> Verdict
+    requires { ⌜ Sound q ⌝ }
+    ensures { λ v. ⌜ v ≡ verdictOf (judged (firstOf (question11 q)) (figures 1 q)) ⌝ }
+{
+    let w = sections::work(1, q);
+    let figures = sections::figures_of(1, q, w);
+    if sections::within_allowance(1, q, w, figures.area) {
+        Verdict::Accepted(figures)
+    } else {
+        Verdict::Refused(Refusal::Allowance)
+    }
+}
+
+// The first of questions 2 to 11 that twelve numbers do not meet, or their figures.
+pub fn verdict_of(q: Sheet) -> Verdict
+    ensures { λ v. ⌜ v ≡ verdictOf (verdict q) ⌝ }
+{
+    let found = first_refusal(q);
+    match found {
+        Found::Refused(r) => Verdict::Refused(r),
+        Found::Met => allowance(q),
+    }
+}

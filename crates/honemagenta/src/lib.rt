@@ -1,0 +1,60 @@
+// The calls for programs in other languages; include/honemagenta.h declares them.
+use certificate::certificates;
+use questions::Answer;
+ghost use mathlib.Core.Path.{_≡_};
+ghost use Rattle.certificate.specs.Certificates.{sheetOf};
+ghost use Rattle.certificate.specs.Outcome.{outcomeOf, outcome, checkOutcome};
+ghost use Rattle.questions.specs.Outcomes.{answerOf, answerIn, bufferIn};
+ghost use Rattle.certificate.specs.Refusals.{told};
+
+#[no_mangle]
+pub extern "C" fn hm_certificate_write(sheet: &[u8], buffer: &mut [u8]) -> Answer
+    ensures { λ a. ⌜ a ≡ answerIn told (outcome (now (sheet .entry))) (now (buffer .entry)) ⌝ }
+    ensures { λ _. ⌜ now (buffer .exit) ≡ bufferIn (outcome (now (sheet .entry))) (now (buffer .entry)) ⌝ }
+{
+    certificates::write(sheet, buffer)
+}
+
+#[no_mangle]
+pub extern "C" fn hm_certificate_check(certificate: &[u8]) -> Answer
+    ensures { λ a. ⌜ a ≡ answerOf told (checkOutcome (now (certificate .entry))) ⌝ }
+{
+    certificates::check(certificate)
+}
+
+// form is 0 for C and 1 for Z.
+#[no_mangle]
+pub extern "C" fn hm_certificate_from_numbers(
+    form: u64,
+    h: u64,
+    b1: u64,
+    b2: u64,
+    c: u64,
+    r: u64,
+    tnom: u64,
+    t: u64,
+    fyb: u64,
+    gm0: u64,
+    rounds: u64,
+    allow: u64,
+    buffer: &mut [u8],
+) -> Answer
+    ensures { λ a. ⌜ a ≡ answerIn told (outcomeOf (sheetOf form h b1 b2 c r tnom t fyb gm0 rounds allow)) (now (buffer .entry)) ⌝ }
+    ensures { λ _. ⌜ now (buffer .exit) ≡ bufferIn (outcomeOf (sheetOf form h b1 b2 c r tnom t fyb gm0 rounds allow)) (now (buffer .entry)) ⌝ }
+{
+    certificates::from_numbers(
+        form,
+        h,
+        b1,
+        b2,
+        c,
+        r,
+        tnom,
+        t,
+        fyb,
+        gm0,
+        rounds,
+        allow,
+        buffer,
+    )
+}

@@ -1,0 +1,3 @@
+pub mod Tests
+pub mod Order
+pub mod FirstNos

@@ -1,0 +1,5 @@
+pub mod Claims
+pub mod Answers
+pub mod Asking
+pub mod Reasons
+pub mod Outcomes

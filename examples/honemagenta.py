@@ -1,0 +1,170 @@
+"""The calls of include/honemagenta.h, for Python. The shared object, in the repository's folder:
+
+    rt staticlib honemagenta
+    cc -shared -o libhonemagenta.so -Wl,--whole-archive target/staticlib/libhonemagenta.a -Wl,--no-whole-archive
+
+Then, in a program:
+
+    import honemagenta
+
+    library = honemagenta.Honemagenta("./libhonemagenta.so")
+    try:
+        certificate = library.write(sheet)
+    except honemagenta.Refused as refused:
+        print(refused.number, refused.line, refused.words)
+
+and `python3 examples/honemagenta.py ./libhonemagenta.so` prints what examples/output.txt says.
+"""
+import ctypes
+import os
+import sys
+from ctypes import c_char_p, c_size_t, c_uint64
+
+FORM_C = 0
+FORM_Z = 1
+
+# A buffer of so many bytes takes every certificate.
+CERTIFICATE_LONGEST = 273
+
+# A sheet's lines.
+KEYS = ("form", "h", "b1", "b2", "c", "r", "tnom", "t", "fyb", "gm0", "rounds", "allow")
+
+# What is wrong, as README.md's table has it; there too: which line is reported, and what to do.
+REFUSALS = {
+    0: "nothing is wrong",
+    1: "a line is missing or misspelt",
+    2: "a value is out of its range",
+    3: "the core is thicker than the nominal thickness",
+    4: "a flange is wider than 60 t",
+    5: "the lip is longer than 50 t",
+    6: "the web is deeper than 500 t",
+    7: "the lip is shorter than a fifth or longer than three fifths of a flange",
+    8: "the inside radius is above 5 t or above a tenth of a flange's mid-line",
+    9: "the lip is longer than three fifths of a flange, on the mid-lines",
+    10: "the lips of a C would overlap: 2 c is more than h",
+    11: "the area cannot be given as closely as allow asks",
+    12: "the buffer is too short",
+    13: "a figure is not the one worked from the first twelve lines",
+}
+
+
+def refusal_words(number):
+    return REFUSALS.get(number, "no such refusal")
+
+
+class Refused(Exception):
+    """The number of the first question that is not met, the line concerned, at 12 the length needed (otherwise 0), and
+    what is wrong in words."""
+
+    def __init__(self, number, line, length, words):
+        super().__init__(number, line, length, words)
+        self.number = number
+        self.line = line
+        self.length = length
+        self.words = words
+
+    def __str__(self):
+        if self.number == 12:
+            return f"{self.words}, {self.length} bytes are needed"
+        return f"refused, question {self.number}, line {self.line}: {self.words}"
+
+
+class Answer(ctypes.Structure):
+    """What a call answers: hm_answer of the header."""
+
+    _fields_ = [("refusal", c_uint64), ("line", c_uint64), ("length", c_uint64)]
+
+
+class Honemagenta:
+    """The calls of the shared object at a path. Several threads may use one."""
+
+    def __init__(self, path):
+        library = ctypes.CDLL(os.path.abspath(path))
+        self._write = library.hm_certificate_write
+        self._check = library.hm_certificate_check
+        self._from_numbers = library.hm_certificate_from_numbers
+        self._write.argtypes = [c_char_p, c_size_t, c_char_p, c_size_t]
+        self._check.argtypes = [c_char_p, c_size_t]
+        self._from_numbers.argtypes = [c_uint64] * 12 + [c_char_p, c_size_t]
+        for call in (self._write, self._check, self._from_numbers):
+            call.restype = Answer
+
+    def write(self, sheet, room=CERTIFICATE_LONGEST):
+        """The certificate of a sheet, both as bytes, written into a buffer of so many bytes."""
+        sheet = _text(sheet)
+        buffer = ctypes.create_string_buffer(room)
+        length = _length(self._write(sheet, len(sheet), buffer, room))
+        return buffer.raw[:length]
+
+    def from_numbers(self, form, h, b1, b2, c, r, tnom, t, fyb, gm0, rounds, allow, room=CERTIFICATE_LONGEST):
+        """The same from the twelve numbers of a sheet, the form being FORM_C or FORM_Z."""
+        numbers = (form, h, b1, b2, c, r, tnom, t, fyb, gm0, rounds, allow)
+        _refuse_wide(numbers)
+        buffer = ctypes.create_string_buffer(room)
+        length = _length(self._from_numbers(*numbers, buffer, room))
+        return buffer.raw[:length]
+
+    def check(self, certificate):
+        """The length of a certificate (bytes) that is the one written for its own sheet; any other is refused."""
+        certificate = _text(certificate)
+        return _length(self._check(certificate, len(certificate)))
+
+
+def _text(text):
+    if not isinstance(text, (bytes, bytearray, memoryview)):
+        raise TypeError(f"bytes are wanted, not {type(text).__name__}")
+    return bytes(text)
+
+
+def _refuse_wide(numbers):
+    """ctypes keeps the last 64 bits of a number: 2**64 + 20000 would pass as 20000."""
+    for key, number in zip(KEYS, numbers):
+        if not isinstance(number, int) or not 0 <= number < 2**64:
+            raise ValueError(f"{key}: {number!r} is not a whole number from 0 to 2**64 - 1")
+
+
+def _length(answer):
+    if answer.refusal != 0:
+        raise Refused(answer.refusal, answer.line, answer.length, refusal_words(answer.refusal))
+    return answer.length
+
+
+def _demonstrate(path):
+    library = Honemagenta(path)
+
+    def report(what, call, *arguments, **named):
+        """What came of a call: what it returned, or the refusal."""
+        try:
+            result = call(*arguments, **named)
+        except Refused as refused:
+            print(f"{what}: {refused}")
+            return None
+        print(f"{what}: in order, {result if isinstance(result, int) else len(result)} bytes")
+        return result
+
+    # Lengths are in 0.01 mm. The last number, allow, says that the area may be off by 0.1 mm².
+    numbers = [FORM_C, 20000, 7400, 6600, 2080, 300, 200, 196, 350, 1000, 1, 10]
+    certificate = report("Certificate from twelve numbers", library.from_numbers, *numbers)
+    print(certificate.decode("ascii"), end="")
+
+    # Whoever is handed the certificate can check it. With a digit changed it is no longer the one that follows from its
+    # first twelve lines.
+    report("Checked", library.check, certificate)
+    changed = bytearray(certificate)
+    changed[-2] ^= 1
+    report("Checked with a digit changed", library.check, changed)
+
+    # From text, twelve lines, each ended by a newline. With allow=0 the area would have to be given without any rounding,
+    # which this one cannot.
+    values = ["C"] + numbers[1:11] + [0]
+    sheet = "".join(f"{key}={value}\n" for key, value in zip(KEYS, values))
+    report("Certificate of the sheet with allow=0", library.write, sheet.encode("ascii"))
+
+    # A buffer that is too short is not written to, and the length needed is reported.
+    report("Certificate in a buffer of 100 bytes", library.from_numbers, *numbers, room=100)
+
+
+if __name__ == "__main__":
+    if len(sys.argv) != 2:
+        sys.exit("honemagenta.py SHARED_OBJECT")
+    _demonstrate(sys.argv[1])

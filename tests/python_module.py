@@ -1,0 +1,73 @@
+"""Tries examples/honemagenta.py as a program that imports it: python_module.py SHARED_OBJECT"""
+import pickle
+import sys
+
+from honemagenta import CERTIFICATE_LONGEST, FORM_C, FORM_Z, KEYS, Honemagenta, Refused, refusal_words
+
+SHEET_B = (FORM_C, 20000, 7400, 6600, 2080, 300, 200, 196, 350, 1000, 1, 10)
+
+
+def raised(kind, call, *arguments, **named):
+    """The exception of a call that must raise one of this kind."""
+    try:
+        call(*arguments, **named)
+    except kind as error:
+        return error
+    raise AssertionError(f"{arguments}: no {kind.__name__}")
+
+
+def with_number(place, number):
+    return SHEET_B[:place] + (number,) + SHEET_B[place + 1 :]
+
+
+def refuses(number, line, length, call, *arguments, **named):
+    refused = raised(Refused, call, *arguments, **named)
+    assert (refused.number, refused.line, refused.length) == (number, line, length), refused
+    assert refused.words == refusal_words(number) and refused.words in str(refused), refused
+    again = pickle.loads(pickle.dumps(refused))
+    assert str(again) == str(refused), again
+
+
+def main(path):
+    library = Honemagenta(path)
+    with open("examples/sheet_b.txt", "rb") as file:
+        sheet = file.read()
+
+    # Text and numbers give the same certificate, and it passes.
+    certificate = library.write(sheet)
+    assert certificate.startswith(sheet) and certificate.endswith(b"\nshifthi=143\n"), certificate
+    assert library.from_numbers(*SHEET_B) == certificate
+    assert library.from_numbers(**dict(zip(KEYS, SHEET_B))) == certificate
+    assert library.write(memoryview(sheet)) == library.write(bytearray(sheet)) == certificate
+    assert library.check(certificate) == len(certificate)
+    z_section = library.from_numbers(*with_number(0, FORM_Z))
+    assert z_section.startswith(b"form=Z\n") and library.check(z_section) == len(z_section)
+
+    # Refusals, with their words.
+    refuses(1, 1, 0, library.write, b"")
+    refuses(1, 1, 0, library.check, b"")
+    refuses(1, 13, 0, library.check, sheet)
+    refuses(2, 1, 0, library.from_numbers, *with_number(0, 2))
+    refuses(2, 2, 0, library.from_numbers, *with_number(1, 2**64 - 1))
+    refuses(11, 12, 0, library.from_numbers, *with_number(11, 0))
+    refuses(13, 18, 0, library.check, certificate.replace(b"shifthi=143", b"shifthi=142"))
+    for room in (0, 100, len(certificate) - 1):
+        refuses(12, 0, len(certificate), library.write, sheet, room=room)
+        refuses(12, 0, len(certificate), library.from_numbers, *SHEET_B, room=room)
+    assert library.write(sheet, room=len(certificate)) == certificate
+    words = raised(Refused, library.from_numbers, *with_number(11, 0)).words
+    assert words == "the area cannot be given as closely as allow asks", words
+
+    # What is no number of 64 bits does not reach the call, wherever it stands.
+    for place, key in enumerate(KEYS):
+        for number in (2**64 + SHEET_B[place], 2**64, -1, float(SHEET_B[place]), str(SHEET_B[place]), None):
+            error = raised(ValueError, library.from_numbers, *with_number(place, number))
+            assert str(error).startswith(f"{key}: {number!r} "), error
+    raised(TypeError, library.from_numbers, *SHEET_B[:11])
+    for text in (sheet.decode("ascii"), None, 160, [1, 2]):
+        raised(TypeError, library.write, text)
+        raised(TypeError, library.check, text)
+    assert len(certificate) <= CERTIFICATE_LONGEST
+
+
+main(sys.argv[1])
