@@ -5,6 +5,7 @@ import sys
 from honemagenta import CERTIFICATE_LONGEST, FORM_C, FORM_Z, KEYS, Honemagenta, Refused, refusal_words
 
 SHEET_B = (FORM_C, 20000, 7400, 6600, 2080, 300, 200, 196, 350, 1000, 1, 10)
+ALLOW = KEYS.index("allow")
 
 
 def raised(kind, call, *arguments, **named):
@@ -46,16 +47,17 @@ def main(path):
     # Refusals, with their words.
     refuses(1, 1, 0, library.write, b"")
     refuses(1, 1, 0, library.check, b"")
-    refuses(1, 13, 0, library.check, sheet)
+    refuses(1, len(KEYS) + 1, 0, library.check, sheet)
     refuses(2, 1, 0, library.from_numbers, *with_number(0, 2))
     refuses(2, 2, 0, library.from_numbers, *with_number(1, 2**64 - 1))
-    refuses(11, 12, 0, library.from_numbers, *with_number(11, 0))
-    refuses(13, 18, 0, library.check, certificate.replace(b"shifthi=143", b"shifthi=142"))
+    refuses(11, ALLOW + 1, 0, library.from_numbers, *with_number(ALLOW, 0))
+    last = certificate.count(b"\n")
+    refuses(13, last, 0, library.check, certificate.replace(b"shifthi=143", b"shifthi=142"))
     for room in (0, 100, len(certificate) - 1):
         refuses(12, 0, len(certificate), library.write, sheet, room=room)
         refuses(12, 0, len(certificate), library.from_numbers, *SHEET_B, room=room)
     assert library.write(sheet, room=len(certificate)) == certificate
-    words = raised(Refused, library.from_numbers, *with_number(11, 0)).words
+    words = raised(Refused, library.from_numbers, *with_number(ALLOW, 0)).words
     assert words == "the area cannot be given as closely as allow asks", words
 
     # What is no number of 64 bits does not reach the call, wherever it stands.
@@ -63,7 +65,7 @@ def main(path):
         for number in (2**64 + SHEET_B[place], 2**64, -1, float(SHEET_B[place]), str(SHEET_B[place]), None):
             error = raised(ValueError, library.from_numbers, *with_number(place, number))
             assert str(error).startswith(f"{key}: {number!r} "), error
-    raised(TypeError, library.from_numbers, *SHEET_B[:11])
+    raised(TypeError, library.from_numbers, *SHEET_B[:-1])
     for text in (sheet.decode("ascii"), None, 160, [1, 2]):
         raised(TypeError, library.write, text)
         raised(TypeError, library.check, text)

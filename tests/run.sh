@@ -11,11 +11,12 @@ if ! command -v python3 >/dev/null; then
     echo "python3 is not here: it is needed to make the expected values of the cases anew" >&2
     exit 1
 fi
-python3 tests/pair_cases.py --check
-python3 tests/text_cases.py --check
+python3 tests/pair_cases.py
+python3 tests/lines_cases.py
 
 # The reference holds to the paper's cases, and what the programs read and have to print is its own, and so
-# are the worked example of docs/WORKING.md and the picture of sheet B.
+# are the worked example of docs/WORKING.md and the picture of sheet B. Each command that makes kept files
+# holds them here, and writes them with --write.
 cargo test --release --offline -q --manifest-path tests/reference/Cargo.toml
 tests/section_cases.sh
 tests/certificate_cases.sh

@@ -1,17 +1,31 @@
-// The three calls, in each version that is measured, and the ranges of the twelve numbers.
+// The lines of a sheet, and the three calls in each version that is measured.
 // (Document 01, "Sheet and certificate".)
 #include "honemagenta.h"
+
+// Key, place, least and greatest value of each line, in order. Only here do they stand one by one.
+#define SHEET(LINE)             \
+    LINE(form, FORM, 0, 1)      \
+    LINE(h, H, 4000, 50000)     \
+    LINE(b1, B1, 2000, 20000)   \
+    LINE(b2, B2, 2000, 20000)   \
+    LINE(c, C, 500, 12000)      \
+    LINE(r, R, 0, 3000)         \
+    LINE(tnom, TNOM, 50, 600)   \
+    LINE(t, T, 45, 600)         \
+    LINE(fyb, FYB, 200, 700)    \
+    LINE(gm0, GM0, 1000, 1500)  \
+    LINE(rounds, ROUNDS, 0, 8)  \
+    LINE(allow, ALLOW, 0, 1000)
+
+#define PLACE(key, place, least, most) place,
+#define RANGE(key, place, least, most) {least, most},
+#define PARAMETER(key, place, least, most) uint64_t key,
+
+enum { SHEET(PLACE) SHEET_LINES };
+
+static const uint64_t RANGES[SHEET_LINES][2] = {SHEET(RANGE)};
 
 typedef hm_answer Answer;
 typedef Answer Write(const uint8_t *sheet, size_t sheet_length, uint8_t *buffer, size_t room);
 typedef Answer Check(const uint8_t *certificate, size_t length);
-typedef Answer FromNumbers(uint64_t form, uint64_t h, uint64_t b1, uint64_t b2, uint64_t c, uint64_t r, uint64_t tnom,
-                           uint64_t t, uint64_t fyb, uint64_t gm0, uint64_t rounds, uint64_t allow, uint8_t *buffer,
-                           size_t room);
-
-enum { SHEET_LINES = 12 };
-
-static const uint64_t RANGES[SHEET_LINES][2] = {
-    {0, 1},    {4000, 50000}, {2000, 20000}, {2000, 20000}, {500, 12000}, {0, 3000},
-    {50, 600}, {45, 600},     {200, 700},    {1000, 1500},  {0, 8},       {0, 1000},
-};
+typedef Answer FromNumbers(SHEET(PARAMETER) uint8_t *buffer, size_t room);

@@ -7,7 +7,7 @@
 #include <string.h>
 
 // ROOM takes every certificate, as README.md asks callers to pass.
-enum { PLACES = 5, SHEETS = 400, ROOM = HM_CERTIFICATE_LONGEST, TURNS = 41 };
+enum { PLACES = 5, SHEETS = 400, ROOM = HM_CERTIFICATE_LONGEST, TURNS = 41, REFUSALS = HM_WRONG_FIGURE };
 
 // ---- versions: the archive, and plain C with each way to take roots, at several places of the program
 
@@ -44,9 +44,6 @@ static const char *const group_names[GROUPS] = {
 
 // ---- sheets
 
-// The places of a sheet's numbers.
-enum { FORM, H, B1, B2, C, R, TNOM, T, FYB, GM0, ROUNDS, ALLOW };
-
 typedef struct { u64 n[SHEET_LINES]; } Sheet;
 
 static const Sheet SHEET_B = {{0, 20000, 7400, 6600, 2080, 300, 200, 196, 350, 1000, 3, 10}};
@@ -59,8 +56,8 @@ static Sheet with(Sheet sheet, int place, u64 value) {
 }
 
 static Answer from_numbers(const Version *v, Sheet sheet, uint8_t *buffer, size_t room) {
-    const u64 *n = sheet.n;
-    return v->from_numbers(n[0], n[1], n[2], n[3], n[4], n[5], n[6], n[7], n[8], n[9], n[10], n[11], buffer, room);
+#define NUMBER(key, place, least, most) sheet.n[place],
+    return v->from_numbers(SHEET(NUMBER) buffer, room);
 }
 
 static u64 refusal_of(Sheet sheet) {
@@ -128,7 +125,7 @@ typedef struct {
     size_t length;
 } Text;
 
-static u64 refusals[14];
+static u64 refusals[REFUSALS + 1];
 static u64 compared;
 
 static void differ(const Version *v, const Sheet *sheet, const Text *text) {
@@ -183,7 +180,7 @@ static Text certificate_of(Sheet sheet) {
     return text;
 }
 
-// A sheet's text is a certificate's first twelve lines.
+// A sheet's text is a certificate's first lines.
 static Text sheet_text(Sheet sheet) {
     Text text = certificate_of(sheet);
     int lines = 0;
@@ -222,7 +219,7 @@ static void agree(void) {
         agree_on_text(WRITE, damaged(text), ROOM);
     }
     printf("The same answers and buffers of all versions in %llu calls; refusals", (unsigned long long)compared);
-    for (int i = 1; i < 14; i++) printf(" %d: %llu", i, (unsigned long long)refusals[i]);
+    for (int i = 1; i <= REFUSALS; i++) printf(" %d: %llu", i, (unsigned long long)refusals[i]);
     printf("; accepted or passed: %llu.\n\n", (unsigned long long)refusals[0]);
 }
 
@@ -391,7 +388,7 @@ static void repeat(const char *name, int passes) {
 }
 
 // certificates                  agreement, then the table of times
-// certificates VERSION PASSES   one version alone, as certificate_0
+// certificates VERSION PASSES   one version alone, as honemagenta_0
 int main(int count, char **words) {
     for (int i = 0; i < SHEETS; i++) sheets[i] = accepted_sheet(i % 2);
     if (count == 3) {

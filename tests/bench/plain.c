@@ -8,11 +8,23 @@ typedef int64_t i64;
 
 #define S 1000000u
 
-// From place SHIFTS on, a value may be below zero.
-enum { LINES = 18, SHIFTS = 16 };
+// Key and type of a certificate's further lines, in order.
+#define FIGURES(LINE) \
+    LINE(area, u64) LINE(axial, u64) LINE(chi1, u64) LINE(chi2, u64) LINE(shiftlo, i64) LINE(shifthi, i64)
 
-typedef struct { u64 form, h, b1, b2, c, r, tnom, t, fyb, gm0, rounds, allow; } Sheet;
-typedef struct { u64 area, axial, chi1, chi2; i64 shiftlo, shifthi; } Figures;
+#define ONE(key, type) +1
+
+// From place SHIFTS on, a value may be below zero.
+enum { LINES = SHEET_LINES FIGURES(ONE), SHIFTS = LINES - 2 };
+
+#define NUMBER(key, place, least, most) u64 key;
+#define FIGURE(key, type) type key;
+typedef struct { SHEET(NUMBER) } Sheet;
+typedef struct { FIGURES(FIGURE) } Figures;
+
+// What they have, in order.
+#define OF_SHEET(key, place, least, most) (i64)sheet->key,
+#define OF_FIGURES(key, type) (i64)f->key,
 
 static Answer refused(u64 number, u64 line) { return (Answer){number, line, 0}; }
 static Answer in_order(size_t length) { return (Answer){0, 0, length}; }
@@ -232,10 +244,9 @@ static int work(const Sheet *sheet, Figures *f) {
 // ---- questions 2 to 11
 
 static Answer judged(const Sheet *sheet, Figures *f) {
-    const u64 values[SHEET_LINES] = {sheet->form, sheet->h, sheet->b1,  sheet->b2,  sheet->c,      sheet->r,
-                                     sheet->tnom, sheet->t, sheet->fyb, sheet->gm0, sheet->rounds, sheet->allow};
+    const i64 values[SHEET_LINES] = {SHEET(OF_SHEET)};
     for (int i = 0; i < SHEET_LINES; i++)
-        if (values[i] < RANGES[i][0] || values[i] > RANGES[i][1]) return refused(2, i + 1);
+        if ((u64)values[i] < RANGES[i][0] || (u64)values[i] > RANGES[i][1]) return refused(2, i + 1);
     const u64 b[2] = {sheet->b1, sheet->b2};
     if (sheet->t > sheet->tnom) return refused(3, 8);
     for (int i = 0; i < 2; i++)
@@ -249,16 +260,15 @@ static Answer judged(const Sheet *sheet, Figures *f) {
     for (int i = 0; i < 2; i++)
         if (5 * (2 * sheet->c - sheet->tnom) > 6 * (b[i] - sheet->tnom)) return refused(9, 3 + i);
     if (sheet->form == 0 && 2 * sheet->c > sheet->h) return refused(10, 5);
-    if (!work(sheet, f)) return refused(11, 12);
+    if (!work(sheet, f)) return refused(11, ALLOW + 1);
     return in_order(0);
 }
 
 // ---- text
 
-static const char *const KEYS[LINES] = {
-    "form=", "h=", "b1=", "b2=", "c=", "r=", "tnom=", "t=", "fyb=", "gm0=", "rounds=", "allow=",
-    "area=", "axial=", "chi1=", "chi2=", "shiftlo=", "shifthi=",
-};
+#define SHEET_KEY(key, place, least, most) #key "=",
+#define FIGURE_KEY(key, type) #key "=",
+static const char *const KEYS[LINES] = {SHEET(SHEET_KEY) FIGURES(FIGURE_KEY)};
 
 static char *put_text(char *at, const char *text) {
     while (*text) *at++ = *text++;
@@ -277,11 +287,7 @@ static char *put_number(char *at, u64 n) {
 }
 
 static Answer put(const Sheet *sheet, const Figures *f, uint8_t *buffer, size_t room) {
-    const i64 values[LINES] = {
-        (i64)sheet->form, (i64)sheet->h, (i64)sheet->b1,  (i64)sheet->b2,  (i64)sheet->c,      (i64)sheet->r,
-        (i64)sheet->tnom, (i64)sheet->t, (i64)sheet->fyb, (i64)sheet->gm0, (i64)sheet->rounds, (i64)sheet->allow,
-        (i64)f->area,     (i64)f->axial, (i64)f->chi1,    (i64)f->chi2,    f->shiftlo,         f->shifthi,
-    };
+    const i64 values[LINES] = {SHEET(OF_SHEET) FIGURES(OF_FIGURES)};
     char text[HM_CERTIFICATE_LONGEST], *at = text;
     for (int i = 0; i < LINES; i++) {
         at = put_text(at, KEYS[i]);
@@ -329,9 +335,9 @@ static u64 read_lines(const uint8_t *text, size_t length, int count, i64 values[
     return at == end ? 0 : (u64)count + 1;
 }
 
-static Sheet sheet_of(const i64 v[]) {
-    return (Sheet){(u64)v[0], (u64)v[1], (u64)v[2], (u64)v[3], (u64)v[4],  (u64)v[5],
-                   (u64)v[6], (u64)v[7], (u64)v[8], (u64)v[9], (u64)v[10], (u64)v[11]};
+static Sheet sheet_of(const i64 values[]) {
+#define VALUE(key, place, least, most) (u64)values[place],
+    return (Sheet){SHEET(VALUE)};
 }
 
 // ---- the calls
@@ -355,17 +361,17 @@ Answer plain_check(const uint8_t *certificate, size_t length) {
     u64 bad = read_lines(certificate, length, LINES, values);
     if (bad) return refused(1, bad);
     Sheet sheet = sheet_of(values);
-    Figures f;
-    Answer answer = judged(&sheet, &f);
+    Figures figures, *f = &figures;
+    Answer answer = judged(&sheet, f);
     if (answer.refusal) return answer;
-    const i64 worked[LINES - SHEET_LINES] = {(i64)f.area, (i64)f.axial, (i64)f.chi1, (i64)f.chi2, f.shiftlo, f.shifthi};
+    const i64 worked[LINES - SHEET_LINES] = {FIGURES(OF_FIGURES)};
     for (int i = SHEET_LINES; i < LINES; i++)
         if (values[i] != worked[i - SHEET_LINES]) return refused(13, i + 1);
     return in_order(length);
 }
 
-Answer plain_from_numbers(u64 form, u64 h, u64 b1, u64 b2, u64 c, u64 r, u64 tnom, u64 t, u64 fyb, u64 gm0, u64 rounds,
-                          u64 allow, uint8_t *buffer, size_t room) {
-    Sheet sheet = {form, h, b1, b2, c, r, tnom, t, fyb, gm0, rounds, allow};
+Answer plain_from_numbers(SHEET(PARAMETER) uint8_t *buffer, size_t room) {
+#define NAMED(key, place, least, most) key,
+    Sheet sheet = {SHEET(NAMED)};
     return certify(&sheet, buffer, room);
 }

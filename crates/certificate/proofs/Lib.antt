@@ -1,8 +1,16 @@
-pub mod Ranges
+pub mod Arrays
+pub mod Spellings
+pub mod Lengths
 pub mod Shown
 pub mod Ties
 pub mod Theorems
 pub mod Steps
 pub mod OutcomeSteps
+pub mod Answered
+pub mod Written
+pub mod Checked
+pub mod Rooms
+pub mod FinerWorkings
 pub mod Promises
 pub mod Marked
+pub mod Laws

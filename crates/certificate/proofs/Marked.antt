@@ -8,22 +8,23 @@ use Rattle.pair.specs.Rounding.{ceilDiv, rootUp}
 use Rattle.pair.specs.Pairs.{exact, ratio, plus, minus, times, over, root, cubeRoot}
 use Rattle.pair.specs.Integers.{_≤ℤ_, lebℤ, least, greatest, floorOver, ceilOver}
 use Rattle.pair.specs.SignedPairs.{signed, difference, signedPlus, signedMinus, leastProduct, greatestProduct, signedTimes, signedOver}
-use Rattle.pair.proofs.IntegerLaws.{lebℤ-true}
-use Rattle.section.specs.Working.{mid-line, lip-line, u², ρ-down, ρ-up, ρ, ρ-plane, ρ-lip, k-past, k-at, k}
+use Rattle.pair.proofs.Numbers.{lebℤ-true}
+use Rattle.section.specs.Working.{mid-line, lip-line, u², ρ-at, ρ, ρ-plane, ρ-lip, k-past, k-at, k}
 use Rattle.section.specs.Working.{half-kept, flange-of, stiffener-of, g, J, T, kf, D, ud}
-use Rattle.section.specs.Working.{χ-before-down, χ-before-up, χ-from-down, χ, χ-of, round, rounds}
-use Rattle.section.specs.Working.{L, lip-moment, flange-moment, far-web-moment, near-web-moment, near-lip-moment, moment, z, full, effective, worked}
+use Rattle.section.specs.Working.{χ-before, χ-from, χ, χ-of, refined-flange, round, rounds}
+use Rattle.section.specs.Working.{L, lip-moment, flange-moment, far-web-moment, near-web-moment, near-lip-moment, moment, z, full, web-kept, effective, worked}
 use Rattle.section.specs.Figures.{printed, figures}
-use Rattle.text.specs.Keys.{keys, keyOf, kindOf}
-use Rattle.text.specs.Decimal.{decimal, integerText}
-use Rattle.text.specs.Lines.{letterOf, valueText, lineText, linesFrom, longestLine, longestFrom}
-use Rattle.text.specs.Reading.{ended, readDigits, readNumber, readShift, readLetter, readValue, begins, readLine, prepend, readEnd, andThen, readFrom}
-use Rattle.certificate.specs.Questions.{ranges, ranged, question2, question3, question4, question5, question6, question7, question8, question9}
-use Rattle.certificate.specs.Certificates.{values}
-use Rattle.questions.specs.Asking.{firstOf, firstIn}
+use Rattle.certificate.specs.Keys.{sheetFields, figureFields, certificateFields}
+use Rattle.lines.specs.Decimal.{decimal, integerText}
+use Rattle.lines.specs.Texts.{letterOf, valueText, lineText, linesText, longestLine, longest}
+use Rattle.lines.specs.Reading.{ended, readDigits, readNumber, readSigned, readLetter, readValue, begins, readLine, prepend, readEnd, andThen, readFrom}
+use Rattle.certificate.specs.Questions.{question2, question3, question4, question5, question6, question7, question8, question9}
+use Rattle.section.specs.Sheets.{sheetOf, valuesOf, fineness, in-ranges}
+use Rattle.questions.specs.Claims.{pairwise}
+use Rattle.questions.specs.Asking.{askedFrom, firstOf, firstIn}
 use Rattle.certificate.specs.Questions.{question10, question11, onNumbers, questions}
-use Rattle.certificate.specs.Certificates.{sheetValues, figureValues, certificateValues, certificateOf, sheetShown, figuresShown}
-use Rattle.questions.specs.Outcomes.{fitting, settled}
+use Rattle.certificate.specs.Certificates.{sheetValues, figureValues, certificateValues, certificateOf, sheetShown, figuresShown, readSheet, sheetIn}
+use Rattle.questions.specs.Outcomes.{fitting, writtenIfMet}
 use Rattle.certificate.specs.Outcome.{question12, writing, outcomeOf, outcomeRead, outcome}
 use Rattle.questions.specs.Outcomes.{answerOf}
 use Rattle.certificate.specs.MarkedCases.{Says, Each, sheetA, sheetB, sheet11, sheet12, sheet13, figuresRead, figuresIn, figuresB, marked}
@@ -38,16 +39,18 @@ unfolding
     ceilDiv rootUp exact ratio plus minus times over root cubeRoot
     lebℤ least greatest floorOver ceilOver signed difference signedPlus signedMinus leastProduct greatestProduct signedTimes signedOver
     -- of section
-    mid-line lip-line u² ρ-down ρ-up ρ ρ-plane ρ-lip k-past k-at k half-kept flange-of stiffener-of g J T kf D ud
-    χ-before-down χ-before-up χ-from-down χ χ-of round rounds
-    L lip-moment flange-moment far-web-moment near-web-moment near-lip-moment moment z full effective worked printed figures
-    -- of text
-    keys keyOf kindOf decimal integerText letterOf valueText lineText linesFrom longestLine longestFrom
-    ended readDigits readNumber readShift readLetter readValue begins readLine prepend readEnd andThen readFrom
+    mid-line lip-line u² ρ-at ρ ρ-plane ρ-lip k-past k-at k half-kept flange-of stiffener-of g J T kf D ud
+    χ-before χ-from χ χ-of refined-flange round rounds
+    L lip-moment flange-moment far-web-moment near-web-moment near-lip-moment moment z full web-kept effective worked printed figures
+    sheetOf valuesOf fineness in-ranges pairwise
+    -- of lines
+    decimal integerText letterOf valueText lineText linesText longestLine longest
+    ended readDigits readNumber readSigned readLetter readValue begins readLine prepend readEnd andThen readFrom
     -- of this crate
-    ranges values ranged question2 question3 question4 question5 question6 question7 question8 question9 question10 question11
-    onNumbers questions firstOf firstIn sheetValues figureValues certificateValues certificateOf sheetShown figuresShown
-    fitting question12 writing settled outcomeOf outcomeRead outcome answerOf
+    sheetFields figureFields certificateFields readSheet sheetIn
+    question2 question3 question4 question5 question6 question7 question8 question9 question10 question11
+    onNumbers questions askedFrom firstOf firstIn sheetValues figureValues certificateValues certificateOf sheetShown figuresShown
+    fitting question12 writing writtenIfMet outcomeOf outcomeRead outcome answerOf
     sheetA sheetB sheet11 sheet12 sheet13 figuresRead figuresIn figuresB marked
 marked-cases =
     (refl, (refl, (refl, (refl, (refl, (refl, ((refl, refl), (refl, (refl, (refl, ((refl, (refl, (between refl refl, (between refl refl, between refl refl)))), (refl, (refl, (refl, tt))))))))))))))

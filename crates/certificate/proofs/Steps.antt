@@ -1,30 +1,31 @@
 -- The steps of the code that answers: the second question, and the eleventh.
-use mathlib.Core.Path.{_≡_, refl, sym, _∙_}
+use mathlib.Core.Path.{_≡_, refl, sym, ap, _∙_}
 use mathlib.Core.Bool.{Bool, true, false}
 use mathlib.Core.Logic.{inl, _↔_}
 use native.Mathlib.Omega.{arith}
-use mathlib.Core.List.{[], _∷_}
+use mathlib.Core.List.{List, [], _∷_, map}
 use Prim.Native.Nat.{ℕ}
 use Rattle.section.specs.declared.Sheet.{Sheet}
 use Rattle.section.specs.declared.Figures.{Figures}
-use Rattle.section.specs.Figures.{figures, allowed, Question11}
+use Rattle.section.specs.Sheets.{fineness, valuesOf, ranges, in-ranges}
+use Rattle.section.specs.Figures.{figures, own-figures, allowed, Question11}
 use Rattle.section.specs.Sound.{Question2}
 use Rattle.section.specs.Forms.{figuresOf}
-use Rattle.section.proofs.PrintedFigures.{allowed-is-met, not-allowed-is-unmet}
+use Rattle.section.proofs.Laws.{allowed-is-met, not-allowed-is-unmet}
 use Rattle.certificate.specs.declared.Refusal.{Refusal}
-use Rattle.certificate.specs.declared.Refusal.the-variants.{Allowance}
+use Rattle.certificate.specs.declared.Refusal.the-variants.{Range, Allowance}
 use Rattle.certificate.specs.declared.Found.{Found}
-use Rattle.certificate.specs.declared.Found.the-variants.{Refused, Met}
+use Rattle.certificate.specs.declared.Found.the-variants.{Unmet, Met}
 use Rattle.certificate.specs.declared.Verdict.{Verdict}
-use Rattle.certificate.specs.declared.Verdict.the-variants.{Refused as Turned, Accepted}
-use Rattle.questions.specs.Asking.{Finding, refusal, met, firstOf, firstIn}
-use Rattle.certificate.specs.Questions.{ranges, ranged, question2, question11, onNumbers, questions, foundOf, from, firstRefusal, judged, verdict, verdictOf}
-use Rattle.certificate.specs.Certificates.{values}
-use Rattle.questions.proofs.FirstNos.{All, all-when-met, met-when-all, refused-when-no}
-use Rattle.questions.proofs.Order.{in-turn, then-nothing}
+use Rattle.certificate.specs.declared.Verdict.the-variants.{Refused, Accepted}
+use Rattle.certificate.specs.declared.verdicts.Span.{Span}
+use Rattle.questions.specs.Claims.{Claim, pairwise}
+use Rattle.questions.specs.Asking.{askedFrom, Finding, refusal, met, firstOf, firstIn}
+use Rattle.certificate.specs.Questions.{question2, question11, onNumbers, questions, foundOf, from, firstRefusal, judged, verdict, verdictOf, spanned}
+use Rattle.questions.proofs.Laws.{All, all-when-met, met-when-all, refused-when-no, in-turn, pairwise-map, then-nothing}
 
 -- what is found, from the form that the code returns
-pub found-refused : (x : Finding Refusal) {f : Found} {r : Refusal} → f ≡ foundOf x → f ≡ Refused r → x ≡ refusal r
+pub found-refused : (x : Finding Refusal) {f : Found} {r : Refusal} → f ≡ foundOf x → f ≡ Unmet r → x ≡ refusal r
 found-refused (refusal s) e g = cc
 found-refused met e g = let z : _≡_ {A = ℕ} 0 1 = cc in absurd (omega arith)
 
@@ -33,7 +34,7 @@ found-met (refusal s) e g = let z : _≡_ {A = ℕ} 0 1 = cc in absurd (omega ar
 found-met met e g = refl
 
 module _ (q : Sheet) where
-  pub refused-second : {f : Found} {r : Refusal} → f ≡ foundOf (firstOf (question2 q)) → f ≡ Refused r → Refused r ≡ foundOf (firstRefusal q)
+  pub refused-second : {f : Found} {r : Refusal} → f ≡ foundOf (firstOf (question2 q)) → f ≡ Unmet r → Unmet r ≡ foundOf (firstRefusal q)
   unfolding firstRefusal onNumbers firstIn
   refused-second e k = rw (found-refused (firstOf (question2 q)) e k)
 
@@ -41,37 +42,47 @@ module _ (q : Sheet) where
   unfolding firstRefusal onNumbers from firstIn
   passed-second e k l = rw (found-met (firstOf (question2 q)) e k) l
 
+  -- what is found of the second, asked by a table of spans that stands for the ranges
+  pub found-by-spans : (spans : List Span) → map spanned spans ≡ ranges → {vs : List ℕ} → vs ≡ valuesOf q
+      → firstOf (question2 q) ≡ firstOf (askedFrom Range 1 (pairwise spanned spans vs))
+  unfolding question2 in-ranges
+  found-by-spans spans e {vs} v =
+      ap (λ (l : List Claim). firstOf (askedFrom Range 1 l))
+      (ap (pairwise (λ range w. range w) ranges) (sym v) ∙ ap (λ (rs : List (ℕ → Claim)). pairwise (λ range w. range w) rs vs) (sym e)
+      ∙ pairwise-map (λ range w. range w) spanned spans vs)
+
   asked2 : All (question2 q) → Question2 q
-  unfolding question2 ranged ranges values
+  unfolding question2 askedFrom in-ranges pairwise valuesOf
   asked2 h = omega arith
 
   -- the second is met
   pub in-range : firstOf (question2 q) ≡ met → Question2 q
   in-range e = asked2 (all-when-met (question2 q) e)
 
-  asked11 : All (question11 q) ↔ Question11 1 q
+  asked11 : All (question11 q) ↔ Question11 (fineness q) q
   unfolding question11
   asked11 = (λ h. record { allowed = h .0 }, λ h. (h .allowed, tt))
 
-  eleventh-met : allowed 1 q ≡ true → firstOf (question11 q) ≡ met
-  eleventh-met e = met-when-all (question11 q) (asked11 .1 (allowed-is-met 1 q .0 e))
+  eleventh-met : allowed (fineness q) q ≡ true → firstOf (question11 q) ≡ met
+  eleventh-met e = met-when-all (question11 q) (asked11 .1 (allowed-is-met (fineness q) q .0 e))
 
-  eleventh-unmet : allowed 1 q ≡ false → firstOf (question11 q) ≡ refusal Allowance
+  eleventh-unmet : allowed (fineness q) q ≡ false → firstOf (question11 q) ≡ refusal Allowance
   unfolding question11
-  eleventh-unmet e = refused-when-no (question11 q) Allowance (inl (λ a. not-allowed-is-unmet 1 q .0 e (asked11 .0 (a, tt)), refl))
+  eleventh-unmet e = refused-when-no (question11 q) Allowance (inl (λ a. not-allowed-is-unmet (fineness q) q .0 e (asked11 .0 (a, tt)), refl))
 
-  pub within : {b : Bool} {f : Figures} → b ≡ allowed 1 q → b ≡ true → f ≡ figuresOf (figures 1 q) → Accepted f ≡ verdictOf (judged (firstOf (question11 q)) (figures 1 q))
-  unfolding judged verdictOf
-  within e k p = rw (eleventh-met (sym e ∙ k), p)
+  module _ {n : ℕ} (own : n ≡ fineness q) where
+    pub within : {b : Bool} {f : Figures} → b ≡ allowed n q → b ≡ true → f ≡ figuresOf (figures n q) → Accepted f ≡ verdictOf (judged (firstOf (question11 q)) (own-figures q))
+    unfolding judged verdictOf
+    within e k p = rw (eleventh-met (ap (λ (m : ℕ). allowed m q) (sym own) ∙ sym e ∙ k)) (ap Accepted (p ∙ ap (λ (m : ℕ). figuresOf (figures m q)) own))
 
-  pub beyond : {b : Bool} → b ≡ allowed 1 q → b ≡ false → Turned Allowance ≡ verdictOf (judged (firstOf (question11 q)) (figures 1 q))
-  unfolding judged verdictOf
-  beyond e k = rw (eleventh-unmet (sym e ∙ k))
+    pub beyond : {b : Bool} → b ≡ allowed n q → b ≡ false → Refused Allowance ≡ verdictOf (judged (firstOf (question11 q)) (own-figures q))
+    unfolding judged verdictOf
+    beyond e k = rw (eleventh-unmet (ap (λ (m : ℕ). allowed m q) (sym own) ∙ sym e ∙ k))
 
-  pub refused-before : {f : Found} {r : Refusal} → f ≡ foundOf (firstRefusal q) → f ≡ Refused r → Turned r ≡ verdictOf (verdict q)
+  pub refused-before : {f : Found} {r : Refusal} → f ≡ foundOf (firstRefusal q) → f ≡ Unmet r → Refused r ≡ verdictOf (verdict q)
   unfolding judged verdict verdictOf questions firstRefusal
   refused-before e k = rw (in-turn (onNumbers q) (question11 q ∷ []), found-refused (firstIn (onNumbers q)) e k)
 
-  pub passed-before : {f : Found} {v : Verdict} → f ≡ foundOf (firstRefusal q) → f ≡ Met → v ≡ verdictOf (judged (firstOf (question11 q)) (figures 1 q)) → v ≡ verdictOf (verdict q)
+  pub passed-before : {f : Found} {v : Verdict} → f ≡ foundOf (firstRefusal q) → f ≡ Met → v ≡ verdictOf (judged (firstOf (question11 q)) (own-figures q)) → v ≡ verdictOf (verdict q)
   unfolding judged verdict questions firstRefusal firstIn
   passed-before e k l = rw (in-turn (onNumbers q) (question11 q ∷ []), found-met (firstIn (onNumbers q)) e k, then-nothing (firstOf (question11 q))) l

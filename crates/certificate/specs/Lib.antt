@@ -1,3 +1,4 @@
+pub mod Keys
 pub mod Refusals
 pub mod Certificates
 pub mod Questions
@@ -5,3 +6,4 @@ pub mod Reasons
 pub mod Outcome
 pub mod Promises
 pub mod MarkedCases
+pub mod Forms

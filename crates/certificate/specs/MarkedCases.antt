@@ -8,10 +8,11 @@ use Rattle.pair.specs.Pairs.{_to_, exact, over, root, cubeRoot}
 use Rattle.pair.specs.Integers.{_≤ℤ_}
 use Rattle.section.specs.Working.{S, ρ-plane, ρ-lip, χ, k}
 use Rattle.section.specs.Figures.{Printed}
-use Rattle.text.specs.Keys.{bytes, certificateLines}
-use Rattle.text.specs.Lines.{longest}
-use Rattle.text.specs.Reading.{Reading, values, badLine, readLines}
-use Rattle.certificate.specs.Refusals.{told}
+use Rattle.lines.specs.Ascii.{bytes}
+use Rattle.lines.specs.Texts.{longest}
+use Rattle.lines.specs.Reading.{Reading, values, badLine, readLines}
+use Rattle.certificate.specs.Keys.{certificateFields}
+use Rattle.certificate.specs.Refusals.{refusalAnswer}
 use Rattle.certificate.specs.Certificates.{figuresShown}
 use Rattle.certificate.specs.Outcome.{outcome}
 use Rattle.questions.specs.Answers.{answer}
@@ -60,7 +61,7 @@ sheet13 = bytes "form=C\nh=7200\nb1=2000\nb2=2000\nc=1200\nr=0\ntnom=100\nt=95\n
 
 -- room for any certificate
 abbrev pub room : ℕ
-room = longest certificateLines
+room = longest certificateFields
 
 -- the figures that a written text shows where it is read back; all 0 where there are none
 unfoldable pub figuresRead : Reading → Printed
@@ -68,7 +69,7 @@ figuresRead (values vs) = figuresShown vs
 figuresRead (badLine l) = figuresShown []
 
 unfoldable pub figuresIn : Outcome Refusal → Printed
-figuresIn (written t) = figuresRead (readLines certificateLines t)
+figuresIn (written t) = figuresRead (readLines certificateFields t)
 figuresIn (refused r) = figuresShown []
 
 unfoldable pub figuresB : Printed
@@ -101,9 +102,9 @@ marked =
     also figuresB .shiftlo lies-between pos 138 and pos 147
     also figuresB .shifthi lies-between pos 138 and pos 147)
     -- 11. B with allow=0: its number and line, and length 0, as for the two behind it
-    ∷ (answerOf told (outcome sheet11 room) gives answer 11 12 0)
+    ∷ (answerOf refusalAnswer (outcome sheet11 room) gives answer 11 12 0)
     -- 12. A with c=2600
-    ∷ (answerOf told (outcome sheet12 room) gives answer 7 3 0)
+    ∷ (answerOf refusalAnswer (outcome sheet12 room) gives answer 7 3 0)
     -- 13. A with b1=b2=2000, c=1200, r=0, tnom=100, t=95
-    ∷ (answerOf told (outcome sheet13 room) gives answer 9 3 0)
+    ∷ (answerOf refusalAnswer (outcome sheet13 room) gives answer 9 3 0)
     ∷ []

@@ -1,43 +1,37 @@
 -- What is promised of writing and checking. The theorems stand in proofs/Promises.
-use Prim.Native.Nat.{ℕ, _≤_}
+use Prim.Native.Nat.{ℕ, _+_, _*_, _≤_}
 use mathlib.Core.List.{List, [], _∷_, _++_}
 use mathlib.Core.Path.{_≡_}
-use lib.IntN.{ℤ, pos}
+use lib.IntN.{ℤ}
 use lib.ListN.{length}
 use Rattle.section.specs.declared.Sheet.{Sheet}
-use Rattle.questions.specs.Claims.{_≤?_, _is_}
+use Rattle.questions.specs.Claims.{_≤?_}
 use Rattle.section.specs.Working.{worked}
-use Rattle.section.specs.Figures.{figures, Held}
-use Rattle.text.specs.Keys.{sheetLines, certificateLines}
-use Rattle.text.specs.Lines.{linesFrom, linesText, TextOf, FirstBad}
-use Rattle.text.specs.Reading.{values, readLines}
+use Rattle.section.specs.Figures.{own-figures, WithinPrinted}
+use Rattle.section.specs.Sheets.{sheetLines, fineness}
+use Rattle.lines.specs.Fields.{Field}
+use Rattle.lines.specs.Texts.{linesText, TextOf, FirstBad}
+use Rattle.lines.specs.Reading.{values, readLines}
+use Rattle.certificate.specs.Keys.{sheetFields, figureFields, certificateFields}
 use Rattle.questions.specs.declared.Answer.{Answer}
 use Rattle.questions.specs.Answers.{answer}
-use Rattle.questions.specs.Reasons.{Lined, _at-line_, AllSo, Reason}
+use Rattle.questions.specs.Reasons.{Lined, _at-line_, linedFrom, AllSo, Reason}
 use Rattle.questions.specs.Outcomes.{written}
 use Rattle.certificate.specs.Reasons.{lines-of}
-use Rattle.certificate.specs.Certificates.{sheetValues, figureValues, certificateOf, valueAt, sheetShown, figuresShown}
+use Rattle.certificate.specs.Certificates.{sheetValues, figureValues, certificateOf, sheetShown, figuresShown, agreeing}
 use Rattle.certificate.specs.Outcome.{outcome, outcomeOf}
 
 -- Are all lines there, spelt as the paper says, with nothing behind the last? They show the sheet q.
 pub record Question1 (s : List ℕ) (q : Sheet) : Type 0 where
-  pub text : TextOf sheetLines (sheetValues q) s
+  pub text : TextOf sheetFields (sheetValues q) s
 
 -- Writing: does the certificate fit the buffer? No: 12, line 0.
 unfoldable pub lines12 : ℕ → Sheet → List Lined
 lines12 room q = (length (certificateOf q) ≤? room at-line 0) ∷ []
 
--- Checking: do lines 13 to 18 agree with the working? No: 13, first that differs.
+-- Checking: do the lines behind the sheet's agree with the working? No: 13, first that differs.
 unfoldable pub lines13 : List ℤ → Sheet → List Lined
-lines13 vs q =
-    let p = figures 1 q in
-    (valueAt vs 12 is pos (p .area) at-line 13)
-    ∷ (valueAt vs 13 is pos (p .axial) at-line 14)
-    ∷ (valueAt vs 14 is pos (p .chi1) at-line 15)
-    ∷ (valueAt vs 15 is pos (p .chi2) at-line 16)
-    ∷ (valueAt vs 16 is p .shiftlo at-line 17)
-    ∷ (valueAt vs 17 is p .shifthi at-line 18)
-    ∷ []
+lines13 vs q = linedFrom (sheetLines + 1) (agreeing vs q)
 
 -- the claims of writing, and those of checking, which passes over the twelfth question, each with the line that the paper names for it
 unfoldable pub lines-of-writing : ℕ → Sheet → List (List Lined)
@@ -53,18 +47,18 @@ pub record Written (s : List ℕ) (room : ℕ) (t : List ℕ) : Type 0 where
   pub questions : AllSo (lines-of-writing room sheet)
   pub text : t ≡ certificateOf sheet
 
--- of n lines, one is the first that is bad, and a names it: 1, first bad or missing line
-pub record Misspelt (n : ℕ) (s : List ℕ) (a : Answer) : Type 0 where
+-- of the lines of T, one is the first that is bad, and a names it: 1, first bad or missing line
+pub record Misspelt (T : List Field) (s : List ℕ) (a : Answer) : Type 0 where
   pub line : ℕ
-  pub bad : FirstBad n s line
-  pub told : a ≡ answer 1 line 0
+  pub bad : FirstBad T s line
+  pub reported : a ≡ answer 1 line 0
 
 -- why numbers are refused with a
 abbrev pub NumbersUnmet : Sheet → ℕ → Answer → Type 0
 NumbersUnmet q room a = Reason 2 (lines-of-writing room q) (length (certificateOf q)) a
 
 -- s shows a sheet that is refused, with the reason
-pub record Unmet (s : List ℕ) (room : ℕ) (a : Answer) : Type 0 where
+pub record SheetUnmet (s : List ℕ) (room : ℕ) (a : Answer) : Type 0 where
   pub sheet : Sheet
   pub question1 : Question1 s sheet
   pub reason : NumbersUnmet sheet room a
@@ -72,7 +66,7 @@ pub record Unmet (s : List ℕ) (room : ℕ) (a : Answer) : Type 0 where
 -- the same of a certificate whose lines have these values
 pub record Unlike (c : List ℕ) (a : Answer) : Type 0 where
   pub shown : List ℤ
-  pub text : TextOf certificateLines shown c
+  pub text : TextOf certificateFields shown c
   pub reason : Reason 2 (lines-of-checking shown (sheetShown shown)) 0 a
 
 -- some sheet, given room, is written as c
@@ -84,15 +78,16 @@ pub record Issued (c : List ℕ) : Type 0 where
 -- The third demand, of a sheet q whose own lines are the bytes s, and of c: c is these lines, and behind them the six of the working at our
 -- scale; its lines are read back from its bytes; and the section q, worked at m times our scale, holds what they show, whatever m is.
 pub record HoldsFinerWorkings (q : Sheet) (s c : List ℕ) : Type 0 where
-  pub own-lines-first : c ≡ s ++ linesFrom sheetLines (figureValues (figures 1 q))
+  pub own-lines-first : c ≡ s ++ linesText figureFields (figureValues (own-figures q))
   pub shown : List ℤ
-  pub read : readLines certificateLines c ≡ values shown
+  pub read : readLines certificateFields c ≡ values shown
   pub held : (m : ℕ) → 1 ≤ m
-      → Held m (figuresShown shown) ((sheetShown shown) .allow) ((sheetShown shown) .fyb) ((sheetShown shown) .gm0) (worked m q)
+      → WithinPrinted (m * fineness q) (figuresShown shown) ((sheetShown shown) .allow) ((sheetShown shown) .fyb) ((sheetShown shown) .gm0)
+      (worked (m * fineness q) q)
 
 -- a sheet's own lines, where it is given as numbers
 abbrev pub own-lines : Sheet → List ℕ
-own-lines q = linesText (sheetValues q)
+own-lines q = linesText sheetFields (sheetValues q)
 
 -- a certificate is written, and holds what it shows
 pub record WrittenAndHeld (q : Sheet) (s : List ℕ) (writes : List ℕ → Type 0) : Type 0 where

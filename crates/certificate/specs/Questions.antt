@@ -1,37 +1,24 @@
 -- The questions on twelve numbers, in order, and what they give. (docs/WORKING.md, 15.)
-use Prim.Native.Nat.{ℕ, _+_, _-_}
+use Prim.Native.Nat.{ℕ, _-_}
 use mathlib.Core.List.{List, [], _∷_, _++_}
 use lib.ListN.{drop}
 use Rattle.section.specs.declared.Sheet.{Sheet}
-use Rattle.section.specs.declared.Span.{Span}
-use Rattle.questions.specs.Claims.{_and_, _or_}
-use Rattle.questions.specs.Asking.{Asked, _else_, Finding, refusal, met, firstIn}
-use Rattle.section.specs.Sheets.{span-of, inside, lip, core-within, width, lip-length, depth, radius-core, radius-flange, mid-line-lip, form-z, lips-apart}
-use Rattle.section.specs.Figures.{Printed, figures, allowance}
+use Rattle.questions.specs.Claims.{Claim, _and_, _or_}
+use Rattle.questions.specs.Asking.{Asked, _else_, askedFrom, Finding, refusal, met, firstIn}
+use Rattle.section.specs.Sheets.{_upto_, in-ranges, fineness, lip, core-within, width, lip-length, depth, radius-core, radius-flange, mid-line-lip, form-z, lips-apart}
+use Rattle.section.specs.Figures.{Printed, own-figures, allowance}
 use Rattle.section.specs.Forms.{figuresOf}
 use Rattle.certificate.specs.declared.Refusal.{Refusal}
 use Rattle.certificate.specs.declared.Refusal.the-variants.{Range, Thickness, FlangeWidth, LipLength, Depth, LipRatio, Radius, MidLineRatio, Form, Allowance}
 use Rattle.certificate.specs.declared.Found.{Found}
-use Rattle.certificate.specs.declared.Found.the-variants.{Refused, Met}
-use Rattle.certificate.specs.Certificates.{values}
+use Rattle.certificate.specs.declared.Found.the-variants.{Unmet, Met}
+use Rattle.certificate.specs.declared.verdicts.Span.{Span}
 use Rattle.certificate.specs.declared.Verdict.{Verdict}
-use Rattle.certificate.specs.declared.Verdict.the-variants.{Refused as Turned, Accepted}
-
--- the ranges in the order of the lines
-unfoldable pub ranges : List Span
-ranges =
-    span-of .form ∷ span-of .h ∷ span-of .b1 ∷ span-of .b2 ∷ span-of .c ∷ span-of .r
-    ∷ span-of .tnom ∷ span-of .t ∷ span-of .fyb ∷ span-of .gm0 ∷ span-of .rounds ∷ span-of .allow ∷ []
-
--- each value in its range, the first of them on this line
-unfoldable pub ranged : ℕ → List Span → List ℕ → List (Asked Refusal)
-ranged line [] vs = []
-ranged line (s ∷ ss) [] = []
-ranged line (s ∷ ss) (v ∷ vs) = (inside s v else Range line) ∷ ranged (line + 1) ss vs
+use Rattle.certificate.specs.declared.Verdict.the-variants.{Refused, Accepted}
 
 -- Is every value in range?
 unfoldable pub question2 : Sheet → List (Asked Refusal)
-question2 q = ranged 1 ranges (values q)
+question2 q = askedFrom Range 1 (in-ranges q)
 
 -- t ≤ tnom?
 unfoldable pub question3 : Sheet → List (Asked Refusal)
@@ -69,7 +56,7 @@ question10 q = (form-z (q .form) or lips-apart (q .c) (q .h) else Form) ∷ []
 
 -- Is the area's upper end at most area + allow, as worked at our scale?
 unfoldable pub question11 : Sheet → List (Asked Refusal)
-question11 q = (allowance 1 q else Allowance) ∷ []
+question11 q = (allowance (fineness q) q else Allowance) ∷ []
 
 -- the questions that need no working, and all of them up to the eleventh; the first is the second of the paper
 unfoldable pub onNumbers : Sheet → List (List (Asked Refusal))
@@ -81,7 +68,7 @@ questions q = onNumbers q ++ (question11 q ∷ [])
 
 -- what is found, in the form that the code returns
 abbrev pub foundOf : Finding Refusal → Found
-foundOf (refusal r) = Refused r
+foundOf (refusal r) = Unmet r
 foundOf met = Met
 
 -- the questions from the k-th of the paper on, up to the tenth
@@ -93,17 +80,21 @@ firstRefusal q = firstIn (onNumbers q)
 
 -- what a sheet gives before anything is written
 pub data Judged : Type 0 where
-  refused : Refusal → Judged
+  rejected : Refusal → Judged
   accepted : Printed → Judged
 
 unfoldable pub judged : Finding Refusal → Printed → Judged
-judged (refusal r) p = refused r
+judged (refusal r) p = rejected r
 judged met p = accepted p
 
 unfoldable pub verdict : Sheet → Judged
-verdict q = judged (firstIn (questions q)) (figures 1 q)
+verdict q = judged (firstIn (questions q)) (own-figures q)
 
 -- the same as the code returns it
 unfoldable pub verdictOf : Judged → Verdict
-verdictOf (refused r) = Turned r
+verdictOf (rejected r) = Refused r
 verdictOf (accepted p) = Accepted (figuresOf p)
+
+-- what a row of the code's table of ranges claims of a value
+abbrev pub spanned : Span → ℕ → Claim
+spanned s v = (s .least upto s .most) v

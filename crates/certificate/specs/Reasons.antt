@@ -3,31 +3,19 @@ use mathlib.Core.List.{List, [], _∷_, _++_}
 use mathlib.Core.Path.{_≡_}
 use Rattle.questions.specs.declared.Answer.{Answer}
 use Rattle.questions.specs.Claims.{_and_, _or_}
-use Rattle.questions.specs.Reasons.{Lined, _at-line_}
+use Rattle.questions.specs.Reasons.{Lined, _at-line_, linedFrom}
 use Rattle.section.specs.declared.Sheet.{Sheet}
-use Rattle.section.specs.Sheets.{span-of, inside, lip, core-within, width, lip-length, depth, radius-core, radius-flange, mid-line-lip, form-z, lips-apart}
+use Rattle.section.specs.Sheets.{in-ranges, fineness, lip, core-within, width, lip-length, depth, radius-core, radius-flange, mid-line-lip, form-z, lips-apart}
 use Rattle.section.specs.Figures.{allowance}
 use Rattle.certificate.specs.declared.Refusal.{Refusal}
-use Rattle.certificate.specs.Refusals.{told}
-use Rattle.certificate.specs.Questions.{Judged, refused}
+use Rattle.certificate.specs.Refusals.{refusalAnswer}
+use Rattle.certificate.specs.Questions.{Judged, rejected}
 
 -- The claims of the questions from the second to the tenth, each with the line that the paper names for it.
 unfoldable pub lines-on-numbers : Sheet → List (List Lined)
 lines-on-numbers q =
     -- Is every value in range? No: 2, first such line.
-    ((inside (span-of .form) (q .form) at-line 1)
-    ∷ (inside (span-of .h) (q .h) at-line 2)
-    ∷ (inside (span-of .b1) (q .b1) at-line 3)
-    ∷ (inside (span-of .b2) (q .b2) at-line 4)
-    ∷ (inside (span-of .c) (q .c) at-line 5)
-    ∷ (inside (span-of .r) (q .r) at-line 6)
-    ∷ (inside (span-of .tnom) (q .tnom .0) at-line 7)
-    ∷ (inside (span-of .t) (q .t .0) at-line 8)
-    ∷ (inside (span-of .fyb) (q .fyb) at-line 9)
-    ∷ (inside (span-of .gm0) (q .gm0) at-line 10)
-    ∷ (inside (span-of .rounds) (q .rounds) at-line 11)
-    ∷ (inside (span-of .allow) (q .allow) at-line 12)
-    ∷ [])
+    linedFrom 1 (in-ranges q)
     -- t ≤ tnom? No: 3, line 8.
     ∷ ((core-within (q .t .0) (q .tnom .0) at-line 8) ∷ [])
     -- b ≤ 60t, flange 1 then 2? No: 4, line 3 or 4.
@@ -48,14 +36,14 @@ lines-on-numbers q =
 
 -- Is the area's upper end at most area + allow? No: 11, line 12.
 unfoldable pub lines11 : Sheet → List Lined
-lines11 q = (allowance 1 q at-line 12) ∷ []
+lines11 q = (allowance (fineness q) q at-line 12) ∷ []
 
 -- the claims up to the eleventh
 unfoldable pub lines-of : Sheet → List (List Lined)
 lines-of q = lines-on-numbers q ++ (lines11 q ∷ [])
 
--- a sheet is judged by a refusal that tells a
+-- a sheet is judged by a refusal whose answer is a
 pub record Judged-as (j : Judged) (a : Answer) : Type 0 where
   pub refusal : Refusal
-  pub judged : j ≡ refused refusal
-  pub tells : told refusal ≡ a
+  pub judged : j ≡ rejected refusal
+  pub tells : refusalAnswer refusal ≡ a

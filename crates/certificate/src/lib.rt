@@ -1,14 +1,33 @@
-// A sheet's numbers, the questions on them, and what they give. (docs/WORKING.md, 14 and 15.)
+// Reading a sheet, the questions on it, writing and checking its certificate. (docs/WORKING.md, 14
+// and 15.)
 pub mod certificates;
+mod keys;
+pub mod reading;
 pub mod refusals;
 pub mod verdicts;
+mod writing;
 
-use section::Core;
+use pair::signed::Integer;
 use section::Figures;
-use section::Nominal;
+use section::SHEET_LINES;
 use section::Sheet;
-ghost use mathlib.Core.Path.{_≡_};
-ghost use Rattle.certificate.specs.Certificates.{sheetOf};
+
+// A certificate is its sheet's lines and those of the figures.
+pub const FIGURE_LINES: usize = 6;
+
+pub const CERTIFICATE_LINES: usize = SHEET_LINES + FIGURE_LINES;
+
+// How long the text of a sheet and of a certificate can be (`longest-sheet` and
+// `longest-certificate` in proofs/Lengths). Bytes more than one behind that do not change what
+// reading gives (`cut-sheet`, `cut-certificate`).
+pub const LONGEST_SHEET: usize = 168;
+
+pub const LONGEST_CERTIFICATE: usize = 273;
+
+const ZERO: Integer = Integer {
+    below: false,
+    size: 0,
+};
 
 // Why a sheet, or a certificate, is refused: a case for each question, with the line or the
 // length that varies.
@@ -41,9 +60,15 @@ pub enum Refusal {
     Figure(u64),
 }
 
+// What bytes are read as: a sheet, or their first bad line, counted from 1.
+pub enum ReadSheet {
+    Shown(Sheet),
+    BadLine(u64),
+}
+
 // What questions find.
 pub enum Found {
-    Refused(Refusal),
+    Unmet(Refusal),
     Met,
 }
 
@@ -51,37 +76,4 @@ pub enum Found {
 pub enum Verdict {
     Refused(Refusal),
     Accepted(Figures),
-}
-
-// Twelve plain numbers, in the order of the lines, as a sheet.
-pub fn sheet_of(
-    form: u64,
-    h: u64,
-    b1: u64,
-    b2: u64,
-    c: u64,
-    r: u64,
-    tnom: u64,
-    t: u64,
-    fyb: u64,
-    gm0: u64,
-    rounds: u64,
-    allow: u64,
-) -> Sheet
-    ensures { λ q. ⌜ q ≡ sheetOf form h b1 b2 c r tnom t fyb gm0 rounds allow ⌝ }
-{
-    Sheet {
-        form,
-        h,
-        b1,
-        b2,
-        c,
-        r,
-        tnom: Nominal(tnom),
-        t: Core(t),
-        fyb,
-        gm0,
-        rounds,
-        allow,
-    }
 }

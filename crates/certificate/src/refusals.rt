@@ -1,13 +1,13 @@
-// What a refusal tells. (docs/WORKING.md, 15.)
+// What is answered for a refusal. (docs/WORKING.md, 15.)
 use crate::Refusal;
 use questions::Answer;
 use questions::answers::answer;
 ghost use mathlib.Core.Path.{_≡_};
-ghost use Rattle.certificate.specs.Refusals.{told};
+ghost use Rattle.certificate.specs.Refusals.{refusalAnswer};
 
 // The number, the line and the length of a refusal.
-pub fn told_of(r: Refusal) -> Answer
-    ensures { λ a. ⌜ a ≡ told r ⌝ }
+pub fn refusal_answer(r: Refusal) -> Answer
+    ensures { λ a. ⌜ a ≡ refusalAnswer r ⌝ }
 {
     match r {
         Refusal::Spelling(line) => answer(1, line, 0),

@@ -3,20 +3,27 @@
 use crate::Found;
 use crate::Refusal;
 use crate::Verdict;
+use section::SHEET_LINES;
 use section::Sheet;
-use section::Span;
 use section::sections;
+use section::sheets;
 ghost use mathlib.Core.Path.{_≡_};
 ghost use Prim.Native.Nat.{_≤_};
 ghost use Rattle.questions.specs.Claims.{test};
 ghost use Rattle.section.specs.Sound.{Question2, Sound};
-ghost use Rattle.section.specs.Figures.{figures};
+ghost use Rattle.section.specs.Figures.{own-figures};
 ghost use Rattle.questions.specs.Asking.{firstOf, First};
-ghost use Rattle.certificate.specs.Questions.{ranges, ranged, question11, foundOf, from, firstRefusal, judged, verdict, verdictOf};
-ghost use Rattle.section.specs.Sheets.{inside, lip};
+ghost use Rattle.certificate.specs.Questions.{question2, question11, foundOf, from, firstRefusal, judged, verdict, verdictOf, spanned};
+ghost use Rattle.section.specs.Sheets.{lip};
+
+// The least and the most that a value may be.
+struct Span {
+    least: u64,
+    most: u64,
+}
 
 // The ranges, in the order of the lines.
-const RANGES: [Span; 12] = [
+const RANGES: [Span; SHEET_LINES] = [
     Span { least: 0, most: 1 },
     Span {
         least: 4000,
@@ -67,23 +74,24 @@ const FLANGE_1: u64 = 3;
 const FLANGE_2: u64 = 4;
 
 fn within(span: Span, v: u64) -> bool
-    ensures { λ r. ⌜ r ≡ test (inside span v) ⌝ }
+    ensures { λ r. ⌜ r ≡ test (spanned span v) ⌝ }
 {
     span.least <= v && v <= span.most
 }
 
 // Question 2: the first line whose value is out of its range.
-fn range(values: [u64; 12]) -> Found
-    ensures { λ f. ⌜ f ≡ foundOf (firstOf (ranged 1 ranges values)) ⌝ }
+fn range(q: Sheet) -> Found
+    ensures { λ f. ⌜ f ≡ foundOf (firstOf (question2 q)) ⌝ }
 {
+    let values = sheets::values_of(q);
     let ranges = RANGES;
     let mut i = 0;
-    while i < 12 {
+    while i < SHEET_LINES {
         let span = ranges[i];
         let v = values[i];
         if !within(span, v) {
             let line = i as u64 + 1;
-            return Found::Refused(Refusal::Range(line));
+            return Found::Unmet(Refusal::Range(line));
         }
         i += 1;
     }
@@ -91,37 +99,37 @@ fn range(values: [u64; 12]) -> Found
 }
 
 // Question 3, and those behind it: t <= tnom.
-fn thickness(q: Sheet) -> Found
+fn from_third(q: Sheet) -> Found
     requires { ⌜ Question2 q ⌝ }
     ensures { λ f. ⌜ First foundOf (from 3 q) f ⌝ }
 {
     let tnom = q.tnom;
     let t = q.t;
     if tnom.0 < t.0 {
-        return Found::Refused(Refusal::Thickness);
+        return Found::Unmet(Refusal::Thickness);
     }
-    widths(q)
+    from_fourth(q)
 }
 
 // Questions 4 to 6, and those behind them: b <= 60t, flange 1 then 2; c <= 50t; h <= 500t.
-fn widths(q: Sheet) -> Found
+fn from_fourth(q: Sheet) -> Found
     requires { ⌜ Question2 q ⌝ }
     ensures { λ f. ⌜ First foundOf (from 4 q) f ⌝ }
 {
     let t = q.t;
     if 60 * t.0 < q.b1 {
-        return Found::Refused(Refusal::FlangeWidth(FLANGE_1));
+        return Found::Unmet(Refusal::FlangeWidth(FLANGE_1));
     }
     if 60 * t.0 < q.b2 {
-        return Found::Refused(Refusal::FlangeWidth(FLANGE_2));
+        return Found::Unmet(Refusal::FlangeWidth(FLANGE_2));
     }
     if 50 * t.0 < q.c {
-        return Found::Refused(Refusal::LipLength);
+        return Found::Unmet(Refusal::LipLength);
     }
     if 500 * t.0 < q.h {
-        return Found::Refused(Refusal::Depth);
+        return Found::Unmet(Refusal::Depth);
     }
-    lips(q)
+    from_seventh(q)
 }
 
 // Whether the lip suits a flange: b <= 5c and 5c <= 3b.
@@ -133,21 +141,21 @@ fn lip_suits(b: u64, c: u64) -> bool
 }
 
 // Question 7, and those behind it: the lip beside flange 1, then 2.
-fn lips(q: Sheet) -> Found
+fn from_seventh(q: Sheet) -> Found
     requires { ⌜ Question2 q ⌝ }
     ensures { λ f. ⌜ First foundOf (from 7 q) f ⌝ }
 {
     if !lip_suits(q.b1, q.c) {
-        return Found::Refused(Refusal::LipRatio(FLANGE_1));
+        return Found::Unmet(Refusal::LipRatio(FLANGE_1));
     }
     if !lip_suits(q.b2, q.c) {
-        return Found::Refused(Refusal::LipRatio(FLANGE_2));
+        return Found::Unmet(Refusal::LipRatio(FLANGE_2));
     }
-    radius(q)
+    from_eighth(q)
 }
 
 // Question 8, and those behind it: r <= 5t and 10r <= bp1 and 10r <= bp2.
-fn radius(q: Sheet) -> Found
+fn from_eighth(q: Sheet) -> Found
     requires { ⌜ Question2 q ⌝ }
     ensures { λ f. ⌜ First foundOf (from 8 q) f ⌝ }
 {
@@ -155,36 +163,36 @@ fn radius(q: Sheet) -> Found
     let t = q.t;
     let r = 10 * q.r;
     if 5 * t.0 < q.r {
-        return Found::Refused(Refusal::Radius);
+        return Found::Unmet(Refusal::Radius);
     }
     if q.b1 - tnom.0 < r {
-        return Found::Refused(Refusal::Radius);
+        return Found::Unmet(Refusal::Radius);
     }
     if q.b2 - tnom.0 < r {
-        return Found::Refused(Refusal::Radius);
+        return Found::Unmet(Refusal::Radius);
     }
-    mid_lines(q)
+    from_ninth(q)
 }
 
 // Question 9, and the one behind it: 5cp <= 3bp, flange 1 then 2, both sides doubled, since cp
 // may have half hundredths.
-fn mid_lines(q: Sheet) -> Found
+fn from_ninth(q: Sheet) -> Found
     requires { ⌜ Question2 q ⌝ }
     ensures { λ f. ⌜ First foundOf (from 9 q) f ⌝ }
 {
     let tnom = q.tnom;
     let lip = 5 * (2 * q.c - tnom.0);
     if 6 * (q.b1 - tnom.0) < lip {
-        return Found::Refused(Refusal::MidLineRatio(FLANGE_1));
+        return Found::Unmet(Refusal::MidLineRatio(FLANGE_1));
     }
     if 6 * (q.b2 - tnom.0) < lip {
-        return Found::Refused(Refusal::MidLineRatio(FLANGE_2));
+        return Found::Unmet(Refusal::MidLineRatio(FLANGE_2));
     }
-    form(q)
+    tenth(q)
 }
 
 // Question 10: form Z, or 2c <= h.
-fn form(q: Sheet) -> Found
+fn tenth(q: Sheet) -> Found
     requires { ⌜ Question2 q ⌝ }
     ensures { λ f. ⌜ First foundOf (from 10 q) f ⌝ }
 {
@@ -194,43 +202,29 @@ fn form(q: Sheet) -> Found
     if 2 * q.c <= q.h {
         return Found::Met;
     }
-    Found::Refused(Refusal::Form)
+    Found::Unmet(Refusal::Form)
 }
 
 // The first of questions 2 to 10 that twelve numbers do not meet.
 pub fn first_refusal(q: Sheet) -> Found
     ensures { λ f. ⌜ f ≡ foundOf (firstRefusal q) ⌝ }
 {
-    let tnom = q.tnom;
-    let t = q.t;
-    let found = range([
-        q.form,
-        q.h,
-        q.b1,
-        q.b2,
-        q.c,
-        q.r,
-        tnom.0,
-        t.0,
-        q.fyb,
-        q.gm0,
-        q.rounds,
-        q.allow,
-    ]);
+    let found = range(q);
     match found {
-        Found::Refused(r) => Found::Refused(r),
-        Found::Met => thickness(q),
+        Found::Unmet(r) => Found::Unmet(r),
+        Found::Met => from_third(q),
     }
 }
 
 // Question 11: whether the area's upper end is at most area + allow. If so, the figures.
 fn allowance(q: Sheet) -> Verdict
     requires { ⌜ Sound q ⌝ }
-    ensures { λ v. ⌜ v ≡ verdictOf (judged (firstOf (question11 q)) (figures 1 q)) ⌝ }
+    ensures { λ v. ⌜ v ≡ verdictOf (judged (firstOf (question11 q)) (own-figures q)) ⌝ }
 {
-    let w = sections::work(1, q);
-    let figures = sections::figures_of(1, q, w);
-    if sections::within_allowance(1, q, w, figures.area) {
+    let n = sheets::fineness_of(q);
+    let w = sections::work(n, q);
+    let figures = sections::figures_of(n, q, w);
+    if sections::within_allowance(n, q, w, figures.area) {
         Verdict::Accepted(figures)
     } else {
         Verdict::Refused(Refusal::Allowance)
@@ -243,7 +237,7 @@ pub fn verdict_of(q: Sheet) -> Verdict
 {
     let found = first_refusal(q);
     match found {
-        Found::Refused(r) => Verdict::Refused(r),
+        Found::Unmet(r) => Verdict::Refused(r),
         Found::Met => allowance(q),
     }
 }

@@ -3,10 +3,10 @@
 // length that are answered; of a sheet that is accepted also the certificate, and what a buffer of
 // just its length and one of a byte less answer. tests/certificate_cases.sh has the reference write
 // the files and what is to be printed.
+use certificate::LONGEST_CERTIFICATE;
 use certificate::certificates;
 use libc::STDOUT_FILENO;
 use questions::Answer;
-use text::LONGEST_CERTIFICATE;
 ghost use Prim.Native.Nat.{_≤_};
 ghost use lib.ListN.{length};
 

@@ -1,9 +1,9 @@
 // Reads a sheet from standard input and prints its certificate, or the refusal's number and line
 // (`certifyPrints` of crates/report/specs/Printed.antt).
+use certificate::LONGEST_CERTIFICATE;
 use report::printing;
 use report::streams;
 use report::streams::Input;
-use text::LONGEST_CERTIFICATE;
 
 fn main() {
     let mut sheet = streams::sheet_buffer();

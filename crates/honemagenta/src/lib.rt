@@ -2,14 +2,15 @@
 use certificate::certificates;
 use questions::Answer;
 ghost use mathlib.Core.Path.{_≡_};
-ghost use Rattle.certificate.specs.Certificates.{sheetOf};
+ghost use mathlib.Core.List.{[], _∷_};
+ghost use Rattle.section.specs.Sheets.{sheetOf};
 ghost use Rattle.certificate.specs.Outcome.{outcomeOf, outcome, checkOutcome};
 ghost use Rattle.questions.specs.Outcomes.{answerOf, answerIn, bufferIn};
-ghost use Rattle.certificate.specs.Refusals.{told};
+ghost use Rattle.certificate.specs.Refusals.{refusalAnswer};
 
 #[no_mangle]
 pub extern "C" fn hm_certificate_write(sheet: &[u8], buffer: &mut [u8]) -> Answer
-    ensures { λ a. ⌜ a ≡ answerIn told (outcome (now (sheet .entry))) (now (buffer .entry)) ⌝ }
+    ensures { λ a. ⌜ a ≡ answerIn refusalAnswer (outcome (now (sheet .entry))) (now (buffer .entry)) ⌝ }
     ensures { λ _. ⌜ now (buffer .exit) ≡ bufferIn (outcome (now (sheet .entry))) (now (buffer .entry)) ⌝ }
 {
     certificates::write(sheet, buffer)
@@ -17,7 +18,7 @@ pub extern "C" fn hm_certificate_write(sheet: &[u8], buffer: &mut [u8]) -> Answe
 
 #[no_mangle]
 pub extern "C" fn hm_certificate_check(certificate: &[u8]) -> Answer
-    ensures { λ a. ⌜ a ≡ answerOf told (checkOutcome (now (certificate .entry))) ⌝ }
+    ensures { λ a. ⌜ a ≡ answerOf refusalAnswer (checkOutcome (now (certificate .entry))) ⌝ }
 {
     certificates::check(certificate)
 }
@@ -39,22 +40,13 @@ pub extern "C" fn hm_certificate_from_numbers(
     allow: u64,
     buffer: &mut [u8],
 ) -> Answer
-    ensures { λ a. ⌜ a ≡ answerIn told (outcomeOf (sheetOf form h b1 b2 c r tnom t fyb gm0 rounds allow)) (now (buffer .entry)) ⌝ }
-    ensures { λ _. ⌜ now (buffer .exit) ≡ bufferIn (outcomeOf (sheetOf form h b1 b2 c r tnom t fyb gm0 rounds allow)) (now (buffer .entry)) ⌝ }
+    ensures { λ a. ⌜ a ≡ answerIn refusalAnswer
+        (outcomeOf (sheetOf (form ∷ h ∷ b1 ∷ b2 ∷ c ∷ r ∷ tnom ∷ t ∷ fyb ∷ gm0 ∷ rounds ∷ allow ∷ [])))
+        (now (buffer .entry)) ⌝ }
+    ensures { λ _. ⌜ now (buffer .exit) ≡ bufferIn
+        (outcomeOf (sheetOf (form ∷ h ∷ b1 ∷ b2 ∷ c ∷ r ∷ tnom ∷ t ∷ fyb ∷ gm0 ∷ rounds ∷ allow ∷ [])))
+        (now (buffer .entry)) ⌝ }
 {
-    certificates::from_numbers(
-        form,
-        h,
-        b1,
-        b2,
-        c,
-        r,
-        tnom,
-        t,
-        fyb,
-        gm0,
-        rounds,
-        allow,
-        buffer,
-    )
+    let numbers = [form, h, b1, b2, c, r, tnom, t, fyb, gm0, rounds, allow];
+    certificates::from_numbers(numbers, buffer)
 }

@@ -15,7 +15,7 @@ use Rattle.pair.proofs.Quotients.{ceil-le, le-floor}
 use Rattle.pair.proofs.Fitting.{ratio-out, over-ratio-out}
 use Rattle.pair.proofs.Powers.{pow-two, pow-three, le-down, up-le}
 use Rattle.pair.proofs.Ratios.{ratio-exact, over-by-ratio, over-twice}
-use Rattle.pair.proofs.Laws.{ratio-positive, ratio-ordered, exact-inside, minus-inside, times-inside, over-inside, root-inside, cube-root-inside}
+use Rattle.pair.proofs.PairLaws.{ratio-positive, ratio-ordered, exact-inside, minus-inside, times-inside, over-inside, root-inside, cube-root-inside}
 
 -- bounds of each end, in units of 1/s
 
@@ -173,14 +173,14 @@ unfolding overFits words word
 over-twice-fits s p a b c e h =
     let once = over-ratio-out s p a b e in
     let whole = ratio-out s a b (once .0) in
-    let a⁺ = over-by-ratio s p a b e .0 in
+    let a⁺ = over-by-ratio s p a b e .low⁺ in
     let again = over-by-ratio s (over s p (ratio s a b)) c 1 h in
-    let same = over-twice s p a b c (again .0) e in
+    let same = over-twice s p a b c (again .low⁺) e in
     let exactly = exact-ratio s (c * a) b (whole .0) (whole .1) (rw (mul-assoc c a s) (mod-eq-zero-of-dvd b (dvd-mul-left-of-dvd b (dvd-of-mod-eq-zero b (whole .2)) c))) in
-    let some = ratio-positive s (c * a) b (mul-pos (again .0) a⁺) exactly in
+    let some = ratio-positive s (c * a) b (mul-pos (again .low⁺) a⁺) exactly in
     over-ratio-fits s p (c * a) b exactly
     (and-both (and-both (lt-ltb _ _ (some .low)) (lt-ltb _ _ (le-trans (some .low) (ratio-ordered s (c * a) b .ends))))
-    (rw same (and-both (lt-ltb _ _ (again .3)) (lt-ltb _ _ (again .4)))))
+    (rw same (and-both (lt-ltb _ _ (again .fits .low)) (lt-ltb _ _ (again .fits .high)))))
 
 pub root-fits : (s : ℕ) {m : ℕ} {P p : Pair} → s % 64 ≡ 0 → Inside m P p → p .hi * m * s < 2 ^ 70 → rootFits s P ≡ true
 unfolding rootFits ordered

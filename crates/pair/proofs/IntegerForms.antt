@@ -159,6 +159,15 @@ module _ (z : Integer) (x : ℕ) {d : ℕ} (d⁺ : 0 < d) where
   unfolding ceilOver
   ceil-above e = rw (above-is z e)
 
+-- the form of what is below zero, by its size, and of what is not
+pub below-form : {v : ℤ} {n m : ℕ} {r : Integer} → v ≡ negℤ (pos m) → r ≡ plain (integer (record { below = true; size = n })) → n ≡ m → r ≡ plain v
+unfolding integer
+below-form e f g = rw (e, f, g)
+
+pub above-form : {v : ℤ} {n m : ℕ} → v ≡ pos m → n ≡ m → record { below = false; size = n } ≡ plain v
+unfolding plain
+above-form e g = rw (e, g)
+
 -- the sign tells which of two factors, or of two divisors, gives the smaller and which the larger result
 
 module _ (z : Integer) {c d : ℕ} (h : c ≤ d) where

@@ -5,10 +5,10 @@ use Prim.Native.Nat.{ℕ, suc, _+_, _*_, _≤_, _<_}
 use native.Mathlib.Nat.{le-of-lt, mul-comm, mul-le-mul-right, le-of-mul-le-mul-right}
 use native.Mathlib.Omega.{arith}
 use borrow.Author.Tests.{leb-true, leb-false, le-leb}
-use lib.IntN.{ℤ, pos, negsuc, negℤ, subℕ, _+ℤ_, _-ℤ_, _*ℤ_, *ℤ-negsuc, *ℤ-comm}
+use lib.IntN.{ℤ, pos, negsuc, negℤ, subℕ, _+ℤ_, _*ℤ_, *ℤ-negsuc, *ℤ-comm}
 use Rattle.pair.specs.Integers.{above, below, _≤ℤ_, lebℤ, least, greatest}
 use Rattle.pair.proofs.Tests.{by-test}
-use Rattle.pair.proofs.IntegerParts.{sub-parts, neg-above, neg-below, plus-parts, minus-parts, scaled-above, scaled-below, times-parts}
+use Rattle.pair.proofs.IntegerParts.{sub-parts, neg-above, neg-below, plus-parts, scaled-above, scaled-below, times-parts}
 
 -- the order
 
@@ -50,9 +50,6 @@ sub-le {a} {a′} {b} {b′} h k = omega (arith, sub-parts a b, sub-parts a′ b
 
 pub plus-le : {x x′ y y′ : ℤ} → x ≤ℤ x′ → y ≤ℤ y′ → x +ℤ y ≤ℤ x′ +ℤ y′
 plus-le {x} {x′} {y} {y′} h k = omega (arith, plus-parts x y, plus-parts x′ y′)
-
-pub minus-le : {x x′ y y′ : ℤ} → x ≤ℤ x′ → y′ ≤ℤ y → x -ℤ y ≤ℤ x′ -ℤ y′
-minus-le {x} {x′} {y} {y′} h k = omega (arith, minus-parts x y, minus-parts x′ y′)
 
 pub scaled-le : (n : ℕ) {x y : ℤ} → x ≤ℤ y → x *ℤ pos n ≤ℤ y *ℤ pos n
 scaled-le n {x} {y} h = omega (arith, scaled-above x n, scaled-below x n, scaled-above y n, scaled-below y n, mul-le-mul-right n (h .order))
@@ -97,12 +94,6 @@ plus-scaled x y n =
     (simp (scaled-above, scaled-below)
     (omega (arith, times-eq n (plus-parts x y), simp (scaled-above, scaled-below) at (plus-parts (x *ℤ pos n) (y *ℤ pos n)))))
 
-pub minus-scaled : (x y : ℤ) (n : ℕ) → (x -ℤ y) *ℤ pos n ≡ x *ℤ pos n -ℤ y *ℤ pos n
-minus-scaled x y n =
-    by-parts _ _
-    (simp (scaled-above, scaled-below)
-    (omega (arith, times-eq n (minus-parts x y), simp (scaled-above, scaled-below) at (minus-parts (x *ℤ pos n) (y *ℤ pos n)))))
-
 -- a product with one factor between two integers lies between the products with those, whatever the sign of the other factor
 
 turned : (n : ℕ) {x y : ℤ} → x ≤ℤ y → y *ℤ negsuc n ≤ℤ x *ℤ negsuc n
@@ -116,20 +107,13 @@ pub times-le : (y : ℤ) {l x h z : ℤ} → l ≤ℤ x → x ≤ℤ h → l *�
 times-le (pos n) a b c d = le-transℤ (scaled-le n b) d
 times-le (negsuc n) a b c d = le-transℤ (turned n a) c
 
--- and with both factors so, between the least and the greatest of four products
+-- and with both factors so, not below the least of four products
 pub le-product : {l x h k y j z : ℤ} → l ≤ℤ x → x ≤ℤ h → k ≤ℤ y → y ≤ℤ j
     → z ≤ℤ l *ℤ k → z ≤ℤ l *ℤ j → z ≤ℤ h *ℤ k → z ≤ℤ h *ℤ j → z ≤ℤ x *ℤ y
 le-product {l} {x} {h} {k} {y} {j} a b c d lk lj hk hj =
     le-times y a b
     (rw (*ℤ-comm l y) (le-times l c d (rw (*ℤ-comm k l) lk) (rw (*ℤ-comm j l) lj)))
     (rw (*ℤ-comm h y) (le-times h c d (rw (*ℤ-comm k h) hk) (rw (*ℤ-comm j h) hj)))
-
-pub product-le : {l x h k y j z : ℤ} → l ≤ℤ x → x ≤ℤ h → k ≤ℤ y → y ≤ℤ j
-    → l *ℤ k ≤ℤ z → l *ℤ j ≤ℤ z → h *ℤ k ≤ℤ z → h *ℤ j ≤ℤ z → x *ℤ y ≤ℤ z
-product-le {l} {x} {h} {k} {y} {j} a b c d lk lj hk hj =
-    times-le y a b
-    (rw (*ℤ-comm l y) (times-le l c d (rw (*ℤ-comm k l) lk) (rw (*ℤ-comm j l) lj)))
-    (rw (*ℤ-comm h y) (times-le h c d (rw (*ℤ-comm k h) hk) (rw (*ℤ-comm j h) hj)))
 
 -- the smaller and the larger of two
 

@@ -5,7 +5,7 @@ use Prim.Native.Nat.{ℕ, zero, suc, _+_, _-_, _*_}
 use native.Mathlib.Omega.{arith}
 use borrow.Author.Tests.{ltb-true, ltb-false}
 use lib.Dec.{ltb}
-use lib.IntN.{ℤ, pos, negsuc, negℤ, subℕ, _+ℤ_, _-ℤ_, _*ℤ_}
+use lib.IntN.{ℤ, pos, negsuc, negℤ, subℕ, _+ℤ_, _*ℤ_}
 use Rattle.pair.specs.Integers.{above, below}
 use Rattle.pair.proofs.Tests.{by-test}
 
@@ -30,9 +30,6 @@ plus-parts (pos a) (pos b) = omega arith
 plus-parts (pos a) (negsuc b) = omega (arith, sub-parts a (suc b))
 plus-parts (negsuc a) (pos b) = omega (arith, sub-parts b (suc a))
 plus-parts (negsuc a) (negsuc b) = omega arith
-
-pub minus-parts : (x y : ℤ) → above (x -ℤ y) + (below x + above y) ≡ above x + below y + below (x -ℤ y)
-minus-parts x y = omega (arith, plus-parts x (negℤ y), neg-above y, neg-below y)
 
 pub scaled-above : (x : ℤ) (n : ℕ) → above (x *ℤ pos n) ≡ above x * n
 scaled-above (pos a) n = refl

@@ -5,10 +5,10 @@ use native.Mathlib.Nat.{div-mul-le-self}
 use native.Mathlib.Omega.{arith}
 use lib.IntN.{ℤ, pos, negsuc, _*ℤ_}
 use Rattle.pair.specs.Rounding.{ceilDiv}
-use Rattle.pair.specs.Integers.{_≤ℤ_, least, greatest, floorOver, ceilOver}
+use Rattle.pair.specs.Integers.{_≤ℤ_, least, floorOver, ceilOver}
 use Rattle.pair.proofs.Quotients.{ceil-le, le-ceil, le-floor}
 use Rattle.pair.proofs.IntegerParts.{neg-above, neg-below}
-use Rattle.pair.proofs.IntegerLaws.{le-transℤ, le-antisymℤ, neg-pos-le, scaled-le, scaled-cancel, scaled-scaled, neg-scaled, of-least, of-greatest, least-left, least-right, greatest-left, greatest-right, le-least, greatest-le}
+use Rattle.pair.proofs.IntegerLaws.{le-transℤ, le-antisymℤ, neg-pos-le, scaled-le, scaled-cancel, scaled-scaled, neg-scaled, of-least, least-left, least-right, le-least}
 
 pub floor-belowℤ : {z : ℤ} {d : ℕ} → 0 < d → floorOver z d *ℤ pos d ≤ℤ z
 unfolding floorOver
@@ -50,19 +50,10 @@ floor-le-ceilℤ d⁺ h = scaled-cancel d⁺ (le-transℤ (floor-belowℤ d⁺) 
 pub floor-monoℤ : {z w : ℤ} {d : ℕ} → 0 < d → z ≤ℤ w → floorOver z d ≤ℤ floorOver w d
 floor-monoℤ d⁺ h = le-floorℤ d⁺ (le-transℤ (floor-belowℤ d⁺) h)
 
-pub ceil-monoℤ : {z w : ℤ} {d : ℕ} → 0 < d → z ≤ℤ w → ceilOver z d ≤ℤ ceilOver w d
-ceil-monoℤ d⁺ h = ceil-leℤ d⁺ (le-transℤ h (ceil-aboveℤ d⁺))
-
--- rounding and the smaller or the larger of two change places
+-- rounding down and the smaller of two change places
 
 pub floor-least : (x y : ℤ) {d : ℕ} → 0 < d → least (floorOver x d) (floorOver y d) ≡ floorOver (least x y) d
 floor-least x y {d} d⁺ =
     le-antisymℤ
     (of-least (λ w. least (floorOver x d) (floorOver y d) ≤ℤ floorOver w d) x y (least-left _ _) (least-right _ _))
     (le-least (floor-monoℤ d⁺ (least-left x y)) (floor-monoℤ d⁺ (least-right x y)))
-
-pub ceil-greatest : (x y : ℤ) {d : ℕ} → 0 < d → greatest (ceilOver x d) (ceilOver y d) ≡ ceilOver (greatest x y) d
-ceil-greatest x y {d} d⁺ =
-    le-antisymℤ
-    (greatest-le (ceil-monoℤ d⁺ (greatest-left x y)) (ceil-monoℤ d⁺ (greatest-right x y)))
-    (of-greatest (λ w. ceilOver w d ≤ℤ greatest (ceilOver x d) (ceilOver y d)) x y (greatest-left _ _) (greatest-right _ _))

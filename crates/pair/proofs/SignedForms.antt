@@ -1,22 +1,26 @@
 -- Signed pairs as the code holds them: which ends give the least and the greatest result, and that every part of it fits.
 use mathlib.Core.Path.{_≡_, refl, ap, ap₂, _∙_}
 use mathlib.Core.Bool.{Bool, true, false, cond}
-use Prim.Native.Nat.{ℕ, _+_, _*_, _^_, _≤_, _<_}
-use native.Mathlib.Nat.{le-trans, lt-of-le-of-lt, add-le-add, le-max-left, le-max-right, mul-le-mul, mul-le-mul-right, mul-le-mul-left}
+use Prim.Native.Nat.{ℕ, max, _+_, _*_, _^_, _≤_, _<_}
+use native.Mathlib.Nat.{le-trans, lt-of-le-of-lt, add-le-add, le-max-left, le-max-right, max-comm, mul-le-mul, mul-le-mul-right, mul-le-mul-left}
 use native.Mathlib.Omega.{arith}
-use lib.IntN.{ℤ, pos, _*ℤ_}
+use lib.Dec.{leb}
+use lib.IntN.{ℤ, pos, negℤ, _*ℤ_}
 use Rattle.pair.specs.Rounding.{ceilDiv}
-use Rattle.pair.specs.Integers.{_≤ℤ_, least, greatest, floorOver, ceilOver}
+use Rattle.pair.specs.Integers.{above, below, _≤ℤ_, lebℤ, least, floorOver, ceilOver}
 use Rattle.pair.specs.SignedPairs.{SignedPair, _upto_, signed, leastProduct, greatestProduct, signedTimes, signedOver, reach}
 use Rattle.pair.specs.Forms.{integer, meaning, plainPair}
+use Rattle.pair.specs.Fits.{signedOrdered, signedPlusFits, signedTimesFits}
 use Rattle.pair.specs.declared.Pair.{Pair}
 use Rattle.pair.specs.declared.signed.Integer.{Integer}
 use Rattle.pair.specs.declared.signed.Signed.{Signed}
 use Rattle.pair.proofs.Quotients.{ceil-le, le-ceil}
 use Rattle.pair.proofs.IntegerLaws.{le-transℤ, scaled-le, least-left, least-right, greatest-left, greatest-right, le-least, greatest-le, least-first, greatest-second}
-use Rattle.pair.proofs.IntegerRounding.{floor-least, ceil-greatest}
+use Rattle.pair.proofs.IntegerParts.{neg-above, neg-below}
+use Rattle.pair.proofs.IntegerRounding.{floor-least}
 use Rattle.pair.proofs.IntegerForms.{plain-means, times-least, times-greatest, over-least, over-greatest}
-use Rattle.pair.proofs.SignedBounds.{PlusRoom, TimesRoom, OverRoom}
+use Rattle.pair.proofs.Opposites.{opposite}
+use Rattle.pair.proofs.SignedBounds.{PlusRoom, TimesRoom, OverRoom, neg-size}
 
 -- the form in which a signed pair is returned stands for it
 
@@ -73,17 +77,12 @@ pub high-over : (a : Signed) (q : Pair) {s n : ℕ} → OverRoom s (meaning a) q
 unfolding signedOver meaning
 high-over a q {s} r e = ap (λ (d : ℕ). ceilOver (integer (a .hi) *ℤ pos s) d) e ∙ over-greatest (a .hi) s (r .some) (r .ends)
 
--- of four products the least rounded down is the least of those rounded down, and likewise the greatest rounded up
+-- of four products the least rounded down is the least of those rounded down
 
 pub floor-product : {s : ℕ} (a b : SignedPair) → 0 < s
     → least (least (floorOver (a .lo *ℤ b .lo) s) (floorOver (a .lo *ℤ b .hi) s)) (least (floorOver (a .hi *ℤ b .lo) s) (floorOver (a .hi *ℤ b .hi) s)) ≡ floorOver (leastProduct a b) s
 unfolding leastProduct
 floor-product a b s⁺ = ap₂ least (floor-least _ _ s⁺) (floor-least _ _ s⁺) ∙ floor-least _ _ s⁺
-
-pub ceil-product : {s : ℕ} (a b : SignedPair) → 0 < s
-    → greatest (greatest (ceilOver (a .lo *ℤ b .lo) s) (ceilOver (a .lo *ℤ b .hi) s)) (greatest (ceilOver (a .hi *ℤ b .lo) s) (ceilOver (a .hi *ℤ b .hi) s)) ≡ ceilOver (greatestProduct a b) s
-unfolding greatestProduct
-ceil-product a b s⁺ = ap₂ greatest (ceil-greatest _ _ s⁺) (ceil-greatest _ _ s⁺) ∙ ceil-greatest _ _ s⁺
 
 -- no product and no quotient of sizes within the reach passes 64 bits
 
@@ -100,6 +99,31 @@ plus-word r h k = lt-of-le-of-lt (add-le-add h k) (r .room)
 
 pub unit-word : {n k : ℕ} → 0 < k → n < 2 ^ 64 → (0 < k) × (ceilDiv (n * 1) k < 2 ^ 64)
 unit-word {n} {k} k⁺ h = (k⁺, lt-of-le-of-lt (ceil-le {n = n * 1} {x = n} k⁺ (mul-le-mul-left n k⁺)) h)
+
+-- the opposite, and that what fits, fits with it
+
+pub opposite-means : (a : Signed) {r : Signed} → r ≡ plainPair (negℤ (integer (a .hi)) upto negℤ (integer (a .lo))) → meaning r ≡ opposite (meaning a)
+unfolding meaning opposite
+opposite-means a e = pair-means e
+
+reach-opposite : (a : SignedPair) → reach (opposite a) ≡ reach a
+unfolding reach opposite
+reach-opposite a = ap₂ max (neg-size (a .hi)) (neg-size (a .lo)) ∙ max-comm _ _
+
+ordered-opposite : (a : SignedPair) → signedOrdered (opposite a) ≡ signedOrdered a
+unfolding signedOrdered lebℤ opposite
+ordered-opposite a =
+    let low : above (negℤ (a .hi)) + below (negℤ (a .lo)) ≡ above (a .lo) + below (a .hi) = omega (arith, neg-above (a .hi), neg-below (a .lo)) in
+    let high : above (negℤ (a .lo)) + below (negℤ (a .hi)) ≡ above (a .hi) + below (a .lo) = omega (arith, neg-above (a .lo), neg-below (a .hi)) in
+    ap₂ leb low high
+
+pub opposite-plus-fits : (a b : SignedPair) → signedPlusFits a b ≡ true → signedPlusFits a (opposite b) ≡ true
+unfolding signedPlusFits
+opposite-plus-fits a b e = rw (reach-opposite b) e
+
+pub opposite-times-fits : (s : ℕ) (a b : SignedPair) → signedTimesFits s a b ≡ true → signedTimesFits s (opposite a) b ≡ true
+unfolding signedTimesFits
+opposite-times-fits s a b e = rw (reach-opposite a, ordered-opposite a) e
 
 -- one of two
 

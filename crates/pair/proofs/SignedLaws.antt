@@ -6,7 +6,8 @@ use lib.IntN.{ℤ, pos, subℕ, _+ℤ_, _-ℤ_}
 use Rattle.pair.specs.SignedPairs.{SignedPair, signed, difference, signedPlus, signedMinus, coarser}
 use Rattle.pair.specs.Enclosure.{Inside, SignedInside, Between, SignedBetween, Ordered, SignedOrdered}
 use Rattle.pair.specs.declared.Pair.{Pair}
-use Rattle.pair.proofs.IntegerLaws.{sub-scaled, plus-scaled, minus-scaled, le-transℤ, sub-le, plus-le, minus-le, scaled-scaled}
+use Rattle.pair.proofs.IntegerLaws.{sub-scaled, plus-scaled, le-transℤ, sub-le, plus-le, scaled-scaled}
+use Rattle.pair.proofs.Opposites.{opposite, opposite-between, opposite-ordered, opposite-inside}
 use Rattle.pair.proofs.IntegerRounding.{le-floorℤ, ceil-leℤ, floor-scaled, ceil-scaled, floor-le-ceilℤ}
 
 -- the ends of a finer pair lie between those of the coarser one
@@ -73,22 +74,19 @@ signed-plus-inside i k =
       high = signed-plus-between (high-betweenℤ i) (high-betweenℤ k) .high;
     }
 
+-- a difference is the sum with the opposite
+
 pub signed-minus-between : {m : ℕ} {x y : ℤ} {a b : SignedPair} → SignedBetween m x a → SignedBetween m y b → SignedBetween m (x -ℤ y) (signedMinus a b)
-unfolding signedMinus
-signed-minus-between h k = record { low = rw minus-scaled (minus-le (h .low) (k .high)); high = rw minus-scaled (minus-le (h .high) (k .low)) }
+unfolding signedPlus signedMinus opposite
+signed-minus-between h k = signed-plus-between h (opposite-between k)
 
 pub signed-minus-ordered : {a b : SignedPair} → SignedOrdered a → SignedOrdered b → SignedOrdered (signedMinus a b)
-unfolding signedMinus
-signed-minus-ordered o r = record { ends = minus-le (o .ends) (r .ends) }
+unfolding signedPlus signedMinus opposite
+signed-minus-ordered o r = signed-plus-ordered o (opposite-ordered r)
 
 pub signed-minus-inside : {m : ℕ} {A a B b : SignedPair} → SignedInside m A a → SignedInside m B b → SignedInside m (signedMinus A B) (signedMinus a b)
-unfolding signedMinus
-signed-minus-inside i k =
-    record {
-      low = signed-minus-between (low-betweenℤ i) (high-betweenℤ k) .low;
-      mid = minus-le (i .mid) (k .mid);
-      high = signed-minus-between (high-betweenℤ i) (low-betweenℤ k) .high;
-    }
+unfolding signedPlus signedMinus opposite
+signed-minus-inside i k = signed-plus-inside i (opposite-inside k)
 
 -- coarser units
 

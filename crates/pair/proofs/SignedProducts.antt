@@ -8,8 +8,9 @@ use Rattle.pair.specs.Integers.{_≤ℤ_, floorOver, ceilOver}
 use Rattle.pair.specs.SignedPairs.{SignedPair, _upto_, leastProduct, greatestProduct, signedTimes, signedOver}
 use Rattle.pair.specs.Enclosure.{Finer, Inside, SignedInside, Between, SignedBetween, SignedOrdered, Positive}
 use Rattle.pair.specs.declared.Pair.{Pair}
-use Rattle.pair.proofs.IntegerLaws.{le-antisymℤ, le-transℤ, scaled-le, scaled-scaled, scaled-swap, scaled-product, le-times, times-le, le-product, product-le, of-least, of-greatest, least-left, least-right, greatest-left, greatest-right, le-least, greatest-le}
+use Rattle.pair.proofs.IntegerLaws.{le-antisymℤ, le-transℤ, scaled-le, scaled-scaled, scaled-swap, scaled-product, le-times, times-le, le-product, of-least, of-greatest, least-left, least-right, greatest-left, greatest-right, le-least, greatest-le}
 use Rattle.pair.proofs.IntegerRounding.{le-floorℤ, ceil-leℤ, floor-belowℤ, ceil-aboveℤ, floor-scaled, ceil-scaled, floor-le-ceilℤ}
+use Rattle.pair.proofs.Opposites.{neg-cancel, neg-product, product-opposite, opposite-between}
 use Rattle.pair.proofs.SignedLaws.{low-between, high-between, low-betweenℤ, high-betweenℤ}
 
 -- products: the least and the greatest of the four
@@ -32,13 +33,7 @@ least-below {m} h k =
     (rw scaled-product (scaled-le (m * m) (le-transℤ (least-right _ _) (least-right _ _))))
 
 greatest-above : {m : ℕ} {x y : ℤ} {a b : SignedPair} → SignedBetween m x a → SignedBetween m y b → x *ℤ y ≤ℤ greatestProduct a b *ℤ pos (m * m)
-unfolding greatestProduct
-greatest-above {m} h k =
-    product-le (h .low) (h .high) (k .low) (k .high)
-    (rw scaled-product (scaled-le (m * m) (le-transℤ (greatest-left _ _) (greatest-left _ _))))
-    (rw scaled-product (scaled-le (m * m) (le-transℤ (greatest-right _ _) (greatest-left _ _))))
-    (rw scaled-product (scaled-le (m * m) (le-transℤ (greatest-left _ _) (greatest-right _ _))))
-    (rw scaled-product (scaled-le (m * m) (le-transℤ (greatest-right _ _) (greatest-right _ _))))
+greatest-above {a} {b} h k = neg-cancel (rw (product-opposite a b, neg-product, neg-product) at (least-below (opposite-between h) k))
 
 -- a product does not depend on the order of its factors
 

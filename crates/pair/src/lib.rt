@@ -10,12 +10,14 @@ ghost use mathlib.Core.Bool.{true};
 ghost use Rattle.pair.specs.Pairs.{exact, ratio, plus, minus, times, over, root, cubeRoot};
 ghost use Rattle.pair.specs.Fits.{ratioFits, plusFits, minusFits, timesFits, overFits, timesRatioFits, overRatioFits, rootFits, cubeRootFits};
 
+#[repr(C)]
 pub struct Pair {
     pub lo: u64,
     pub hi: u64,
 }
 
 // Two pairs, worked side by side.
+#[repr(C)]
 pub struct TwoPairs {
     pub one: Pair,
     pub two: Pair,

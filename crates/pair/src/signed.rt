@@ -10,16 +10,18 @@ ghost use Prim.Native.Nat.{_+_, _*_, _^_, _<_};
 ghost use lib.IntN.{pos, subℕ, negℤ, _+ℤ_, _*ℤ_};
 ghost use Rattle.pair.specs.Rounding.{ceilDiv};
 ghost use Rattle.pair.specs.Integers.{lebℤ, least, greatest, floorOver, ceilOver};
-ghost use Rattle.pair.specs.SignedPairs.{signed, difference, signedPlus, signedMinus, signedTimes, signedOver, coarser};
+ghost use Rattle.pair.specs.SignedPairs.{_upto_, signed, difference, signedPlus, signedMinus, signedTimes, signedOver, coarser};
 ghost use Rattle.pair.specs.Forms.{integer, plain, meaning, plainPair};
 ghost use Rattle.pair.specs.Fits.{signedPlusFits, signedTimesFits, signedOverFits};
 
+#[repr(C)]
 pub struct Integer {
     pub below: bool,
     pub size: u64,
 }
 
 // A lower and an upper end, in units of 1/s.
+#[repr(C)]
 pub struct Signed {
     pub lo: Integer,
     pub hi: Integer,
@@ -166,17 +168,12 @@ impl Integer {
         }
     }
 
-    // self * b / d rounded toward plus infinity.
+    // self * b / d rounded toward plus infinity: toward minus infinity on the other side of zero.
     pub fn ceil_product(self, b: Integer, d: u64) -> Self
         requires { ⌜ (0 < d) × (ceilDiv (self .size * b .size) d < 2 ^ 64) ⌝ }
         ensures { λ r. ⌜ r ≡ plain (ceilOver (integer self *ℤ integer b) d) ⌝ }
     {
-        let below = b.below;
-        if below {
-            self.negated().ceil_by(b.size, d)
-        } else {
-            self.ceil_by(b.size, d)
-        }
+        self.negated().floor_product(b, d).negated()
     }
 }
 
@@ -192,20 +189,6 @@ fn least_product(a: Signed, b: Signed, s: u64) -> Integer
     let first = p.floor_product(x, s).least(p.floor_product(y, s));
     let second = q.floor_product(x, s).least(q.floor_product(y, s));
     first.least(second)
-}
-
-// The greatest product of an end of a and an end of b, over s, rounded toward plus infinity.
-fn greatest_product(a: Signed, b: Signed, s: u64) -> Integer
-    requires { ⌜ signedTimesFits s (meaning a) (meaning b) ≡ true ⌝ }
-    ensures { λ r. ⌜ r ≡ plain (signedTimes s (meaning a) (meaning b) .hi) ⌝ }
-{
-    let p = a.lo;
-    let q = a.hi;
-    let x = b.lo;
-    let y = b.hi;
-    let first = p.ceil_product(x, s).greatest(p.ceil_product(y, s));
-    let second = q.ceil_product(x, s).greatest(q.ceil_product(y, s));
-    first.greatest(second)
 }
 
 impl Signed {
@@ -234,6 +217,18 @@ impl Signed {
         }
     }
 
+    // The ends change places.
+    fn negated(self) -> Self
+        ensures { λ r. ⌜ r ≡ plainPair (negℤ (integer (self .hi)) upto negℤ (integer (self .lo))) ⌝ }
+    {
+        let p = self.lo;
+        let q = self.hi;
+        Signed {
+            lo: q.negated(),
+            hi: p.negated(),
+        }
+    }
+
     pub fn plus(self, b: Signed) -> Self
         requires { ⌜ signedPlusFits (meaning self) (meaning b) ≡ true ⌝ }
         ensures { λ r. ⌜ r ≡ plainPair (signedPlus (meaning self) (meaning b)) ⌝ }
@@ -250,14 +245,7 @@ impl Signed {
         requires { ⌜ signedPlusFits (meaning self) (meaning b) ≡ true ⌝ }
         ensures { λ r. ⌜ r ≡ plainPair (signedMinus (meaning self) (meaning b)) ⌝ }
     {
-        let p = self.lo;
-        let q = self.hi;
-        let x = b.lo;
-        let y = b.hi;
-        Signed {
-            lo: p.plus(y.negated()),
-            hi: q.plus(x.negated()),
-        }
+        self.plus(b.negated())
     }
 
     // By a pair, none of which is below zero: an end below zero takes the pair's other end.
@@ -273,13 +261,14 @@ impl Signed {
         }
     }
 
+    // The greatest product is the least one on the other side of zero.
     pub fn times_signed(self, b: Signed, s: u64) -> Self
         requires { ⌜ signedTimesFits s (meaning self) (meaning b) ≡ true ⌝ }
         ensures { λ r. ⌜ r ≡ plainPair (signedTimes s (meaning self) (meaning b)) ⌝ }
     {
         Signed {
             lo: least_product(self, b, s),
-            hi: greatest_product(self, b, s),
+            hi: least_product(self.negated(), b, s).negated(),
         }
     }
 

@@ -3,6 +3,7 @@
 pub mod signed;
 
 use pair::Pair;
+use pair::TwoPairs;
 use pair::roots;
 use pair::wide;
 ghost use mathlib.Core.Path.{_≡_};
@@ -12,20 +13,6 @@ ghost use Rattle.pair.specs.Rounding.{ceilDiv};
 ghost use Rattle.pair.specs.Remainders.{Split, SquareRooted, CubeRooted};
 ghost use Rattle.pair.specs.Pairs.{_to_, exact, ratio, plus, minus, times, over, root, cubeRoot};
 ghost use Rattle.pair.specs.Fits.{ratioFits, plusFits, minusFits, timesFits, overFits, timesRatioFits, overRatioFits, rootFits, cubeRootFits};
-
-// A pair's lower and upper end, as C has them.
-#[repr(C)]
-pub struct Ends {
-    pub lo: u64,
-    pub hi: u64,
-}
-
-// The ends of two pairs.
-#[repr(C)]
-pub struct TwoEnds {
-    pub one: Ends,
-    pub two: Ends,
-}
 
 // A quotient or a root with what is left over.
 #[repr(C)]
@@ -92,138 +79,117 @@ pub extern "C" fn pair_cube_of(n: u64) -> Part
 }
 
 #[no_mangle]
-pub extern "C" fn pair_exact(v: u64) -> Ends
-    ensures { λ r. ⌜ (r .lo to r .hi) ≡ exact v ⌝ }
+pub extern "C" fn pair_exact(v: u64) -> Pair
+    ensures { λ r. ⌜ r ≡ exact v ⌝ }
 {
-    let r = Pair::exact(v);
-    Ends { lo: r.lo, hi: r.hi }
+    Pair::exact(v)
 }
 
 #[no_mangle]
-pub extern "C" fn pair_ratio(a: u64, b: u64, s: u64) -> Ends
+pub extern "C" fn pair_ratio(a: u64, b: u64, s: u64) -> Pair
     requires { ⌜ ratioFits s a b ≡ true ⌝ }
-    ensures { λ r. ⌜ (r .lo to r .hi) ≡ ratio s a b ⌝ }
+    ensures { λ r. ⌜ r ≡ ratio s a b ⌝ }
 {
-    let r = Pair::ratio(a, b, s);
-    Ends { lo: r.lo, hi: r.hi }
+    Pair::ratio(a, b, s)
 }
 
 #[no_mangle]
-pub extern "C" fn pair_plus(lo: u64, hi: u64, least: u64, most: u64) -> Ends
+pub extern "C" fn pair_plus(lo: u64, hi: u64, least: u64, most: u64) -> Pair
     requires { ⌜ plusFits (lo to hi) (least to most) ≡ true ⌝ }
-    ensures { λ r. ⌜ (r .lo to r .hi) ≡ plus (lo to hi) (least to most) ⌝ }
+    ensures { λ r. ⌜ r ≡ plus (lo to hi) (least to most) ⌝ }
 {
-    let p = Pair { lo: lo, hi: hi };
+    let p = Pair { lo, hi };
     let q = Pair {
         lo: least,
         hi: most,
     };
-    let r = p.plus(q);
-    Ends { lo: r.lo, hi: r.hi }
+    p.plus(q)
 }
 
 #[no_mangle]
-pub extern "C" fn pair_minus(lo: u64, hi: u64, least: u64, most: u64) -> Ends
+pub extern "C" fn pair_minus(lo: u64, hi: u64, least: u64, most: u64) -> Pair
     requires { ⌜ minusFits (lo to hi) (least to most) ≡ true ⌝ }
-    ensures { λ r. ⌜ (r .lo to r .hi) ≡ minus (lo to hi) (least to most) ⌝ }
+    ensures { λ r. ⌜ r ≡ minus (lo to hi) (least to most) ⌝ }
 {
-    let p = Pair { lo: lo, hi: hi };
+    let p = Pair { lo, hi };
     let q = Pair {
         lo: least,
         hi: most,
     };
-    let r = p.minus(q);
-    Ends { lo: r.lo, hi: r.hi }
+    p.minus(q)
 }
 
 #[no_mangle]
-pub extern "C" fn pair_times(lo: u64, hi: u64, least: u64, most: u64, s: u64) -> Ends
+pub extern "C" fn pair_times(lo: u64, hi: u64, least: u64, most: u64, s: u64) -> Pair
     requires { ⌜ timesFits s (lo to hi) (least to most) ≡ true ⌝ }
-    ensures { λ r. ⌜ (r .lo to r .hi) ≡ times s (lo to hi) (least to most) ⌝ }
+    ensures { λ r. ⌜ r ≡ times s (lo to hi) (least to most) ⌝ }
 {
-    let p = Pair { lo: lo, hi: hi };
+    let p = Pair { lo, hi };
     let q = Pair {
         lo: least,
         hi: most,
     };
-    let r = p.times(q, s);
-    Ends { lo: r.lo, hi: r.hi }
+    p.times(q, s)
 }
 
 #[no_mangle]
-pub extern "C" fn pair_over(lo: u64, hi: u64, least: u64, most: u64, s: u64) -> Ends
+pub extern "C" fn pair_over(lo: u64, hi: u64, least: u64, most: u64, s: u64) -> Pair
     requires { ⌜ overFits s (lo to hi) (least to most) ≡ true ⌝ }
-    ensures { λ r. ⌜ (r .lo to r .hi) ≡ over s (lo to hi) (least to most) ⌝ }
+    ensures { λ r. ⌜ r ≡ over s (lo to hi) (least to most) ⌝ }
 {
-    let p = Pair { lo: lo, hi: hi };
+    let p = Pair { lo, hi };
     let q = Pair {
         lo: least,
         hi: most,
     };
-    let r = p.over(q, s);
-    Ends { lo: r.lo, hi: r.hi }
+    p.over(q, s)
 }
 
 #[no_mangle]
-pub extern "C" fn pair_times_ratio(lo: u64, hi: u64, a: u64, b: u64, s: u64) -> Ends
+pub extern "C" fn pair_times_ratio(lo: u64, hi: u64, a: u64, b: u64, s: u64) -> Pair
     requires { ⌜ timesRatioFits s (lo to hi) a b ≡ true ⌝ }
-    ensures { λ r. ⌜ (r .lo to r .hi) ≡ times s (lo to hi) (ratio s a b) ⌝ }
+    ensures { λ r. ⌜ r ≡ times s (lo to hi) (ratio s a b) ⌝ }
 {
-    let p = Pair { lo: lo, hi: hi };
-    let r = p.times_ratio(a, b, s);
-    Ends { lo: r.lo, hi: r.hi }
+    let p = Pair { lo, hi };
+    p.times_ratio(a, b, s)
 }
 
 #[no_mangle]
-pub extern "C" fn pair_over_ratio(lo: u64, hi: u64, a: u64, b: u64, s: u64) -> Ends
+pub extern "C" fn pair_over_ratio(lo: u64, hi: u64, a: u64, b: u64, s: u64) -> Pair
     requires { ⌜ overRatioFits s (lo to hi) a b ≡ true ⌝ }
-    ensures { λ r. ⌜ (r .lo to r .hi) ≡ over s (lo to hi) (ratio s a b) ⌝ }
+    ensures { λ r. ⌜ r ≡ over s (lo to hi) (ratio s a b) ⌝ }
 {
-    let p = Pair { lo: lo, hi: hi };
-    let r = p.over_ratio(a, b, s);
-    Ends { lo: r.lo, hi: r.hi }
+    let p = Pair { lo, hi };
+    p.over_ratio(a, b, s)
 }
 
 #[no_mangle]
-pub extern "C" fn pair_root(lo: u64, hi: u64, s: u64) -> Ends
+pub extern "C" fn pair_root(lo: u64, hi: u64, s: u64) -> Pair
     requires { ⌜ rootFits s (lo to hi) ≡ true ⌝ }
-    ensures { λ r. ⌜ (r .lo to r .hi) ≡ root s (lo to hi) ⌝ }
+    ensures { λ r. ⌜ r ≡ root s (lo to hi) ⌝ }
 {
-    let p = Pair { lo: lo, hi: hi };
-    let r = p.root(s);
-    Ends { lo: r.lo, hi: r.hi }
+    let p = Pair { lo, hi };
+    p.root(s)
 }
 
 #[no_mangle]
-pub extern "C" fn pair_roots(lo: u64, hi: u64, least: u64, most: u64, s: u64) -> TwoEnds
+pub extern "C" fn pair_roots(lo: u64, hi: u64, least: u64, most: u64, s: u64) -> TwoPairs
     requires { ⌜ (rootFits s (lo to hi) ≡ true) × (rootFits s (least to most) ≡ true) ⌝ }
-    ensures { λ r. ⌜ ((r .one .lo to r .one .hi) ≡ root s (lo to hi)) × ((r .two .lo to r .two .hi) ≡ root s (least to most)) ⌝ }
+    ensures { λ r. ⌜ (r .one ≡ root s (lo to hi)) × (r .two ≡ root s (least to most)) ⌝ }
 {
-    let p = Pair { lo: lo, hi: hi };
+    let p = Pair { lo, hi };
     let q = Pair {
         lo: least,
         hi: most,
     };
-    let r = p.roots(q, s);
-    let first = r.one;
-    let second = r.two;
-    let one = Ends {
-        lo: first.lo,
-        hi: first.hi,
-    };
-    let two = Ends {
-        lo: second.lo,
-        hi: second.hi,
-    };
-    TwoEnds { one, two }
+    p.roots(q, s)
 }
 
 #[no_mangle]
-pub extern "C" fn pair_cube_root(lo: u64, hi: u64, s: u64) -> Ends
+pub extern "C" fn pair_cube_root(lo: u64, hi: u64, s: u64) -> Pair
     requires { ⌜ cubeRootFits s (lo to hi) ≡ true ⌝ }
-    ensures { λ r. ⌜ (r .lo to r .hi) ≡ cubeRoot s (lo to hi) ⌝ }
+    ensures { λ r. ⌜ r ≡ cubeRoot s (lo to hi) ⌝ }
 {
-    let p = Pair { lo: lo, hi: hi };
-    let r = p.cube_root(s);
-    Ends { lo: r.lo, hi: r.hi }
+    let p = Pair { lo, hi };
+    p.cube_root(s)
 }

@@ -11,431 +11,150 @@ ghost use Rattle.pair.specs.Rounding.{ceilDiv};
 ghost use Rattle.pair.specs.Pairs.{_to_};
 ghost use Rattle.pair.specs.Integers.{lebℤ, least, greatest, floorOver, ceilOver};
 ghost use Rattle.pair.specs.SignedPairs.{signed, difference, signedPlus, signedMinus, signedTimes, signedOver, coarser};
-ghost use Rattle.pair.specs.Forms.{plain, plainPair};
+ghost use Rattle.pair.specs.Forms.{integer, plain, meaning, plainPair};
 ghost use Rattle.pair.specs.Fits.{signedPlusFits, signedTimesFits, signedOverFits};
-ghost use Rattle.pair_c.specs.Forms.{form, forms, end, ends};
-
-// An integer, as C has it: its size and whether it lies below zero.
-#[repr(C)]
-pub struct SignedEnd {
-    pub below: bool,
-    pub size: u64,
-}
-
-// A signed pair's lower and upper end.
-#[repr(C)]
-pub struct SignedEnds {
-    pub lo: SignedEnd,
-    pub hi: SignedEnd,
-}
 
 #[no_mangle]
-pub extern "C" fn pair_difference(a: u64, b: u64) -> SignedEnd
-    ensures { λ r. ⌜ form r ≡ plain (subℕ a b) ⌝ }
+pub extern "C" fn pair_difference(a: u64, b: u64) -> Integer
+    ensures { λ r. ⌜ r ≡ plain (subℕ a b) ⌝ }
 {
-    let r = Integer::difference(a, b);
-    SignedEnd {
-        below: r.below,
-        size: r.size,
-    }
+    Integer::difference(a, b)
 }
 
 #[no_mangle]
-pub extern "C" fn pair_negated(a: SignedEnd) -> SignedEnd
-    ensures { λ r. ⌜ form r ≡ plain (negℤ (end a)) ⌝ }
+pub extern "C" fn pair_negated(a: Integer) -> Integer
+    ensures { λ r. ⌜ r ≡ plain (negℤ (integer a)) ⌝ }
 {
-    let p = Integer {
-        below: a.below,
-        size: a.size,
-    };
-    let r = p.negated();
-    SignedEnd {
-        below: r.below,
-        size: r.size,
-    }
+    a.negated()
 }
 
 #[no_mangle]
-pub extern "C" fn pair_sum(a: SignedEnd, b: SignedEnd) -> SignedEnd
+pub extern "C" fn pair_sum(a: Integer, b: Integer) -> Integer
     requires { ⌜ a .size + b .size < 2 ^ 64 ⌝ }
-    ensures { λ r. ⌜ form r ≡ plain (end a +ℤ end b) ⌝ }
+    ensures { λ r. ⌜ r ≡ plain (integer a +ℤ integer b) ⌝ }
 {
-    let p = Integer {
-        below: a.below,
-        size: a.size,
-    };
-    let q = Integer {
-        below: b.below,
-        size: b.size,
-    };
-    let r = p.plus(q);
-    SignedEnd {
-        below: r.below,
-        size: r.size,
-    }
+    a.plus(b)
 }
 
 #[no_mangle]
-pub extern "C" fn pair_at_most(a: SignedEnd, b: SignedEnd) -> bool
-    ensures { λ r. ⌜ r ≡ lebℤ (end a) (end b) ⌝ }
+pub extern "C" fn pair_at_most(a: Integer, b: Integer) -> bool
+    ensures { λ r. ⌜ r ≡ lebℤ (integer a) (integer b) ⌝ }
 {
-    let p = Integer {
-        below: a.below,
-        size: a.size,
-    };
-    let q = Integer {
-        below: b.below,
-        size: b.size,
-    };
-    p.at_most(q)
+    a.at_most(b)
 }
 
 #[no_mangle]
-pub extern "C" fn pair_least(a: SignedEnd, b: SignedEnd) -> SignedEnd
-    ensures { λ r. ⌜ form r ≡ plain (least (end a) (end b)) ⌝ }
+pub extern "C" fn pair_least(a: Integer, b: Integer) -> Integer
+    ensures { λ r. ⌜ r ≡ plain (least (integer a) (integer b)) ⌝ }
 {
-    let p = Integer {
-        below: a.below,
-        size: a.size,
-    };
-    let q = Integer {
-        below: b.below,
-        size: b.size,
-    };
-    let r = p.least(q);
-    SignedEnd {
-        below: r.below,
-        size: r.size,
-    }
+    a.least(b)
 }
 
 #[no_mangle]
-pub extern "C" fn pair_greatest(a: SignedEnd, b: SignedEnd) -> SignedEnd
-    ensures { λ r. ⌜ form r ≡ plain (greatest (end a) (end b)) ⌝ }
+pub extern "C" fn pair_greatest(a: Integer, b: Integer) -> Integer
+    ensures { λ r. ⌜ r ≡ plain (greatest (integer a) (integer b)) ⌝ }
 {
-    let p = Integer {
-        below: a.below,
-        size: a.size,
-    };
-    let q = Integer {
-        below: b.below,
-        size: b.size,
-    };
-    let r = p.greatest(q);
-    SignedEnd {
-        below: r.below,
-        size: r.size,
-    }
+    a.greatest(b)
 }
 
 #[no_mangle]
-pub extern "C" fn pair_floor_by(a: SignedEnd, x: u64, d: u64) -> SignedEnd
+pub extern "C" fn pair_floor_by(a: Integer, x: u64, d: u64) -> Integer
     requires { ⌜ (0 < d) × (ceilDiv (a .size * x) d < 2 ^ 64) ⌝ }
-    ensures { λ r. ⌜ form r ≡ plain (floorOver (end a *ℤ pos x) d) ⌝ }
+    ensures { λ r. ⌜ r ≡ plain (floorOver (integer a *ℤ pos x) d) ⌝ }
 {
-    let p = Integer {
-        below: a.below,
-        size: a.size,
-    };
-    let r = p.floor_by(x, d);
-    SignedEnd {
-        below: r.below,
-        size: r.size,
-    }
+    a.floor_by(x, d)
 }
 
 #[no_mangle]
-pub extern "C" fn pair_ceil_by(a: SignedEnd, x: u64, d: u64) -> SignedEnd
+pub extern "C" fn pair_ceil_by(a: Integer, x: u64, d: u64) -> Integer
     requires { ⌜ (0 < d) × (ceilDiv (a .size * x) d < 2 ^ 64) ⌝ }
-    ensures { λ r. ⌜ form r ≡ plain (ceilOver (end a *ℤ pos x) d) ⌝ }
+    ensures { λ r. ⌜ r ≡ plain (ceilOver (integer a *ℤ pos x) d) ⌝ }
 {
-    let p = Integer {
-        below: a.below,
-        size: a.size,
-    };
-    let r = p.ceil_by(x, d);
-    SignedEnd {
-        below: r.below,
-        size: r.size,
-    }
+    a.ceil_by(x, d)
 }
 
 #[no_mangle]
-pub extern "C" fn pair_floor_product(a: SignedEnd, b: SignedEnd, d: u64) -> SignedEnd
+pub extern "C" fn pair_floor_product(a: Integer, b: Integer, d: u64) -> Integer
     requires { ⌜ (0 < d) × (ceilDiv (a .size * b .size) d < 2 ^ 64) ⌝ }
-    ensures { λ r. ⌜ form r ≡ plain (floorOver (end a *ℤ end b) d) ⌝ }
+    ensures { λ r. ⌜ r ≡ plain (floorOver (integer a *ℤ integer b) d) ⌝ }
 {
-    let p = Integer {
-        below: a.below,
-        size: a.size,
-    };
-    let q = Integer {
-        below: b.below,
-        size: b.size,
-    };
-    let r = p.floor_product(q, d);
-    SignedEnd {
-        below: r.below,
-        size: r.size,
-    }
+    a.floor_product(b, d)
 }
 
 #[no_mangle]
-pub extern "C" fn pair_ceil_product(a: SignedEnd, b: SignedEnd, d: u64) -> SignedEnd
+pub extern "C" fn pair_ceil_product(a: Integer, b: Integer, d: u64) -> Integer
     requires { ⌜ (0 < d) × (ceilDiv (a .size * b .size) d < 2 ^ 64) ⌝ }
-    ensures { λ r. ⌜ form r ≡ plain (ceilOver (end a *ℤ end b) d) ⌝ }
+    ensures { λ r. ⌜ r ≡ plain (ceilOver (integer a *ℤ integer b) d) ⌝ }
 {
-    let p = Integer {
-        below: a.below,
-        size: a.size,
-    };
-    let q = Integer {
-        below: b.below,
-        size: b.size,
-    };
-    let r = p.ceil_product(q, d);
-    SignedEnd {
-        below: r.below,
-        size: r.size,
-    }
+    a.ceil_product(b, d)
 }
 
 #[no_mangle]
-pub extern "C" fn pair_signed(lo: u64, hi: u64) -> SignedEnds
-    ensures { λ r. ⌜ forms r ≡ plainPair (signed (lo to hi)) ⌝ }
+pub extern "C" fn pair_signed(lo: u64, hi: u64) -> Signed
+    ensures { λ r. ⌜ r ≡ plainPair (signed (lo to hi)) ⌝ }
 {
-    let p = Pair { lo: lo, hi: hi };
-    let r = Signed::of(p);
-    SignedEnds {
-        lo: SignedEnd {
-            below: r.lo.below,
-            size: r.lo.size,
-        },
-        hi: SignedEnd {
-            below: r.hi.below,
-            size: r.hi.size,
-        },
-    }
+    let p = Pair { lo, hi };
+    Signed::of(p)
 }
 
 #[no_mangle]
-pub extern "C" fn pair_between(lo: u64, hi: u64, least: u64, most: u64) -> SignedEnds
-    ensures { λ r. ⌜ forms r ≡ plainPair (difference (lo to hi) (least to most)) ⌝ }
+pub extern "C" fn pair_between(lo: u64, hi: u64, least: u64, most: u64) -> Signed
+    ensures { λ r. ⌜ r ≡ plainPair (difference (lo to hi) (least to most)) ⌝ }
 {
-    let p = Pair { lo: lo, hi: hi };
+    let p = Pair { lo, hi };
     let q = Pair {
         lo: least,
         hi: most,
     };
-    let r = Signed::between(p, q);
-    SignedEnds {
-        lo: SignedEnd {
-            below: r.lo.below,
-            size: r.lo.size,
-        },
-        hi: SignedEnd {
-            below: r.hi.below,
-            size: r.hi.size,
-        },
-    }
+    Signed::between(p, q)
 }
 
 #[no_mangle]
-pub extern "C" fn pair_signed_plus(a: SignedEnds, b: SignedEnds) -> SignedEnds
-    requires { ⌜ signedPlusFits (ends a) (ends b) ≡ true ⌝ }
-    ensures { λ r. ⌜ forms r ≡ plainPair (signedPlus (ends a) (ends b)) ⌝ }
+pub extern "C" fn pair_signed_plus(a: Signed, b: Signed) -> Signed
+    requires { ⌜ signedPlusFits (meaning a) (meaning b) ≡ true ⌝ }
+    ensures { λ r. ⌜ r ≡ plainPair (signedPlus (meaning a) (meaning b)) ⌝ }
 {
-    let p = Signed {
-        lo: Integer {
-            below: a.lo.below,
-            size: a.lo.size,
-        },
-        hi: Integer {
-            below: a.hi.below,
-            size: a.hi.size,
-        },
-    };
-    let q = Signed {
-        lo: Integer {
-            below: b.lo.below,
-            size: b.lo.size,
-        },
-        hi: Integer {
-            below: b.hi.below,
-            size: b.hi.size,
-        },
-    };
-    let r = p.plus(q);
-    SignedEnds {
-        lo: SignedEnd {
-            below: r.lo.below,
-            size: r.lo.size,
-        },
-        hi: SignedEnd {
-            below: r.hi.below,
-            size: r.hi.size,
-        },
-    }
+    a.plus(b)
 }
 
 #[no_mangle]
-pub extern "C" fn pair_signed_minus(a: SignedEnds, b: SignedEnds) -> SignedEnds
-    requires { ⌜ signedPlusFits (ends a) (ends b) ≡ true ⌝ }
-    ensures { λ r. ⌜ forms r ≡ plainPair (signedMinus (ends a) (ends b)) ⌝ }
+pub extern "C" fn pair_signed_minus(a: Signed, b: Signed) -> Signed
+    requires { ⌜ signedPlusFits (meaning a) (meaning b) ≡ true ⌝ }
+    ensures { λ r. ⌜ r ≡ plainPair (signedMinus (meaning a) (meaning b)) ⌝ }
 {
-    let p = Signed {
-        lo: Integer {
-            below: a.lo.below,
-            size: a.lo.size,
-        },
-        hi: Integer {
-            below: a.hi.below,
-            size: a.hi.size,
-        },
-    };
-    let q = Signed {
-        lo: Integer {
-            below: b.lo.below,
-            size: b.lo.size,
-        },
-        hi: Integer {
-            below: b.hi.below,
-            size: b.hi.size,
-        },
-    };
-    let r = p.minus(q);
-    SignedEnds {
-        lo: SignedEnd {
-            below: r.lo.below,
-            size: r.lo.size,
-        },
-        hi: SignedEnd {
-            below: r.hi.below,
-            size: r.hi.size,
-        },
-    }
+    a.minus(b)
 }
 
 #[no_mangle]
-pub extern "C" fn pair_signed_times(a: SignedEnds, lo: u64, hi: u64, s: u64) -> SignedEnds
-    requires { ⌜ signedTimesFits s (ends a) (signed (lo to hi)) ≡ true ⌝ }
-    ensures { λ r. ⌜ forms r ≡ plainPair (signedTimes s (ends a) (signed (lo to hi))) ⌝ }
+pub extern "C" fn pair_signed_times(a: Signed, lo: u64, hi: u64, s: u64) -> Signed
+    requires { ⌜ signedTimesFits s (meaning a) (signed (lo to hi)) ≡ true ⌝ }
+    ensures { λ r. ⌜ r ≡ plainPair (signedTimes s (meaning a) (signed (lo to hi))) ⌝ }
 {
-    let p = Signed {
-        lo: Integer {
-            below: a.lo.below,
-            size: a.lo.size,
-        },
-        hi: Integer {
-            below: a.hi.below,
-            size: a.hi.size,
-        },
-    };
-    let q = Pair { lo: lo, hi: hi };
-    let r = p.times(q, s);
-    SignedEnds {
-        lo: SignedEnd {
-            below: r.lo.below,
-            size: r.lo.size,
-        },
-        hi: SignedEnd {
-            below: r.hi.below,
-            size: r.hi.size,
-        },
-    }
+    let q = Pair { lo, hi };
+    a.times(q, s)
 }
 
 #[no_mangle]
-pub extern "C" fn pair_times_signed(a: SignedEnds, b: SignedEnds, s: u64) -> SignedEnds
-    requires { ⌜ signedTimesFits s (ends a) (ends b) ≡ true ⌝ }
-    ensures { λ r. ⌜ forms r ≡ plainPair (signedTimes s (ends a) (ends b)) ⌝ }
+pub extern "C" fn pair_times_signed(a: Signed, b: Signed, s: u64) -> Signed
+    requires { ⌜ signedTimesFits s (meaning a) (meaning b) ≡ true ⌝ }
+    ensures { λ r. ⌜ r ≡ plainPair (signedTimes s (meaning a) (meaning b)) ⌝ }
 {
-    let p = Signed {
-        lo: Integer {
-            below: a.lo.below,
-            size: a.lo.size,
-        },
-        hi: Integer {
-            below: a.hi.below,
-            size: a.hi.size,
-        },
-    };
-    let q = Signed {
-        lo: Integer {
-            below: b.lo.below,
-            size: b.lo.size,
-        },
-        hi: Integer {
-            below: b.hi.below,
-            size: b.hi.size,
-        },
-    };
-    let r = p.times_signed(q, s);
-    SignedEnds {
-        lo: SignedEnd {
-            below: r.lo.below,
-            size: r.lo.size,
-        },
-        hi: SignedEnd {
-            below: r.hi.below,
-            size: r.hi.size,
-        },
-    }
+    a.times_signed(b, s)
 }
 
 #[no_mangle]
-pub extern "C" fn pair_signed_over(a: SignedEnds, lo: u64, hi: u64, s: u64) -> SignedEnds
-    requires { ⌜ signedOverFits s (ends a) (lo to hi) ≡ true ⌝ }
-    ensures { λ r. ⌜ forms r ≡ plainPair (signedOver s (ends a) (lo to hi)) ⌝ }
+pub extern "C" fn pair_signed_over(a: Signed, lo: u64, hi: u64, s: u64) -> Signed
+    requires { ⌜ signedOverFits s (meaning a) (lo to hi) ≡ true ⌝ }
+    ensures { λ r. ⌜ r ≡ plainPair (signedOver s (meaning a) (lo to hi)) ⌝ }
 {
-    let p = Signed {
-        lo: Integer {
-            below: a.lo.below,
-            size: a.lo.size,
-        },
-        hi: Integer {
-            below: a.hi.below,
-            size: a.hi.size,
-        },
-    };
-    let q = Pair { lo: lo, hi: hi };
-    let r = p.over(q, s);
-    SignedEnds {
-        lo: SignedEnd {
-            below: r.lo.below,
-            size: r.lo.size,
-        },
-        hi: SignedEnd {
-            below: r.hi.below,
-            size: r.hi.size,
-        },
-    }
+    let q = Pair { lo, hi };
+    a.over(q, s)
 }
 
 #[no_mangle]
-pub extern "C" fn pair_coarser(a: SignedEnds, k: u64) -> SignedEnds
+pub extern "C" fn pair_coarser(a: Signed, k: u64) -> Signed
     requires { ⌜ 0 < k ⌝ }
-    ensures { λ r. ⌜ forms r ≡ plainPair (coarser k (ends a)) ⌝ }
+    ensures { λ r. ⌜ r ≡ plainPair (coarser k (meaning a)) ⌝ }
 {
-    let p = Signed {
-        lo: Integer {
-            below: a.lo.below,
-            size: a.lo.size,
-        },
-        hi: Integer {
-            below: a.hi.below,
-            size: a.hi.size,
-        },
-    };
-    let r = p.coarser(k);
-    SignedEnds {
-        lo: SignedEnd {
-            below: r.lo.below,
-            size: r.lo.size,
-        },
-        hi: SignedEnd {
-            below: r.hi.below,
-            size: r.hi.size,
-        },
-    }
+    a.coarser(k)
 }

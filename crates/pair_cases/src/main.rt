@@ -7,15 +7,6 @@ mod print;
 mod whole;
 
 use pair::signed::Integer;
-ghost use Prim.Native.Nat.{_<_};
-
-// A line as far as it is read: its letter, and its numbers from place 1 on.
-struct Case {
-    letter: u8,
-    place: usize,
-    sizes: [u64; 6],
-    below: [bool; 6],
-}
 
 // A case's numbers, in their order.
 struct Operands {
@@ -26,107 +17,32 @@ struct Operands {
     e: Integer,
 }
 
-struct Reading {
-    case: Case,
-    more: bool,
-}
-
-fn begun() -> Case {
-    Case {
-        letter: 0,
-        place: 0,
-        sizes: [0; 6],
-        below: [false; 6],
-    }
-}
-
-// One decimal digit more. No number of the cases passes 64 bits.
-fn with_digit(size: u64, digit: u8) -> u64 {
-    std::num::wrapping_add_u64(size % 1844674407370955162 * 10, digit as u64)
-}
-
-fn with_byte(case: Case, byte: u8) -> Case {
-    let mut c = case;
-    let at = c.place;
-    if at < 5 {
-        if byte == b' ' {
-            c.place = at + 1;
-            return c;
-        }
-    }
-    if at < 6 {
-        if byte == b'-' {
-            c.below[at] = true;
-            return c;
-        }
-        if b'0' <= byte {
-            if byte <= b'9' {
-                c.sizes[at] = with_digit(c.sizes[at], byte - b'0');
-                return c;
-            }
-        }
-    }
-    c.letter = byte;
-    c
-}
-
-fn number_at(case: Case, place: usize) -> Integer
-    requires { ⌜ place < 6 ⌝ }
-{
-    Integer {
-        below: case.below[place],
-        size: case.sizes[place],
-    }
-}
-
-fn run(case: Case) {
+fn run(line: &[u8]) {
+    let letter = cases::letter(line);
     let o = Operands {
-        a: number_at(case, 1),
-        b: number_at(case, 2),
-        c: number_at(case, 3),
-        d: number_at(case, 4),
-        e: number_at(case, 5),
+        a: cases::number(line, 1),
+        b: cases::number(line, 2),
+        c: cases::number(line, 3),
+        d: cases::number(line, 4),
+        e: cases::number(line, 5),
     };
-    whole::run(case.letter, o);
-    pairs::run(case.letter, o);
-    integers::run(case.letter, o);
-    integers::run_signed(case.letter, o);
+    whole::run(letter, o);
+    pairs::run(letter, o);
+    integers::run(letter, o);
+    integers::run_signed(letter, o);
 }
 
-fn with_bytes(case: Case, bytes: &[u8]) -> Case {
-    let mut c = case;
-    let mut i = 0;
-    while i < bytes.len() {
-        if bytes[i] == b'\n' {
-            run(c);
-            c = begun();
-        } else {
-            c = with_byte(c, bytes[i]);
-        }
-        i += 1;
-    }
-    c
-}
-
-fn read_some(case: Case) -> Reading {
-    let mut buffer = io::large_buffer();
-    let n = io::read_full(0, &mut buffer);
-    Reading {
-        case: with_bytes(case, &buffer[..n]),
-        more: 0 < n,
+fn run_all(input: &[u8]) {
+    let mut at = 0;
+    while at < input.len() {
+        let end = cases::line_end(input, at);
+        run(&input[at..end]);
+        at = end + 1;
     }
 }
 
-// A proved loop has to end, and nothing says that the input does: the loop counts its turns down,
-// from a number that no run uses up.
 fn main() {
-    let mut turns = u64::MAX;
-    let mut r = Reading {
-        case: begun(),
-        more: true,
-    };
-    while turns > 0 && r.more {
-        turns -= 1;
-        r = read_some(r.case);
-    }
+    let mut buffer = cases::buffer();
+    let n = io::read_full(0, &mut buffer);
+    run_all(&buffer[..n]);
 }

@@ -1,9 +1,10 @@
 // What a case prints.
-use libc::STDOUT_FILENO;
+use cases::print;
 use pair::Pair;
 use pair::TwoPairs;
 use pair::signed::Integer;
 use pair::signed::Signed;
+use pair::wide;
 
 // What an operation gave.
 pub enum Outcome {
@@ -17,61 +18,28 @@ pub enum Outcome {
     SignedEnds(Signed),
 }
 
-fn number(n: u64) {
-    io::write_all(STDOUT_FILENO, b" ");
-    io::print_decimal(STDOUT_FILENO, n);
-}
-
-// A zero below zero would be seen, as -0.
-fn integer(z: Integer) {
-    let below = z.below;
-    if below {
-        io::write_all(STDOUT_FILENO, b" -");
-        io::print_decimal(STDOUT_FILENO, z.size);
-    } else {
-        number(z.size);
-    }
-}
-
 fn two(a: u64, b: u64) {
-    number(a);
-    number(b);
-}
-
-fn ends(p: Pair) {
-    two(p.lo, p.hi);
-}
-
-fn truth(holds: bool) {
-    if holds {
-        number(1);
-    } else {
-        number(0);
-    }
-}
-
-fn signed(a: Signed) {
-    integer(a.lo);
-    integer(a.hi);
+    print::number(a);
+    print::number(b);
 }
 
 // A line: the operation's name, and what it gave.
 pub fn line(name: &[u8], outcome: Outcome) {
-    io::write_all(STDOUT_FILENO, name);
+    print::text(name);
     match outcome {
         Outcome::NotApplied => {
-            io::write_all(STDOUT_FILENO, b" does not apply");
+            print::text(b" does not apply");
         }
-        Outcome::Truth(holds) => truth(holds),
-        Outcome::Whole(n) => number(n),
+        Outcome::Truth(holds) => print::number(wide::pick(holds, 1, 0)),
+        Outcome::Whole(n) => print::number(n),
         Outcome::Rooted(root, rest) => two(root, rest),
-        Outcome::Ends(p) => ends(p),
+        Outcome::Ends(p) => print::ends(p),
         Outcome::TwoEnds(t) => {
-            ends(t.one);
-            ends(t.two);
+            print::ends(t.one);
+            print::ends(t.two);
         }
-        Outcome::Integer(z) => integer(z),
-        Outcome::SignedEnds(a) => signed(a),
+        Outcome::Integer(z) => print::integer(z),
+        Outcome::SignedEnds(a) => print::signed_ends(a),
     }
-    io::write_all(STDOUT_FILENO, b"\n");
+    print::text(b"\n");
 }

@@ -16,10 +16,10 @@ use Rattle.pair.specs.Fits.{word, words, ordered, timesFits, overFits, exactRat
 use Rattle.pair.specs.declared.Pair.{Pair}
 use Rattle.pair.specs.declared.signed.Signed.{Signed}
 use Rattle.pair.proofs.Tests.{and-left, and-right, and-both}
-use Rattle.pair.proofs.Quotients.{pos-left, floor-le-ceil, same-floor, same-ceil}
+use Rattle.pair.proofs.Quotients.{pos-left, floor-le-ceil}
 use Rattle.pair.proofs.Splits.{divides, is-quotient, quotient-le, product-split, ceil-exact, ceil-above}
 use Rattle.pair.proofs.Fitting.{ratio-out, cube-root-out}
-use Rattle.pair.proofs.Ratios.{units}
+use Rattle.pair.proofs.Ratios.{units, times-same, over-same}
 use Rattle.pair.proofs.ScaledRoot.{by-4096, factor-fits}
 use Rattle.pair.proofs.IntegerForms.{integer-size}
 
@@ -155,14 +155,10 @@ unfolding timesRatioFits timesFits words times ratio exact
 times-ratio-test s p a b =
     under (exactRatio s a b) _ _ λ t.
     let whole = ratio-out s a b t in
-    let u = units s a b (whole .2) in
-    let cross : (n : ℕ) → n * a * s ≡ n * (a * s / b) * b = λ n. omega (arith, ap (λ (x : ℕ). n * x) u) in
     shared (ltb 0 b) _ _
     ∙ ap₂ _&&_
     (lt-ltb 0 b (whole .1) ∙ sym (lt-ltb 0 s (whole .0)))
-    (ap₂ (λ (x y : ℕ). word x && word y)
-    (same-floor _ _ _ _ (whole .1) (whole .0) (cross (p .lo)))
-    (same-ceil _ _ _ _ (whole .1) (whole .0) (cross (p .hi))))
+    (ap words (times-same s a b _ p (units s a b (whole .2)) (whole .0) (whole .1)))
 
 -- an exact operand is above zero where its numerator is
 units-some : (s a b : ℕ) → 0 < s → 0 < b → a * s / b * b ≡ a * s → ltb 0 a ≡ ltb 0 (a * s / b)
@@ -179,14 +175,9 @@ over-ratio-test s p a b =
     let whole = ratio-out s a b t in
     let u = units s a b (whole .2) in
     let some = units-some s a b (whole .0) (whole .1) u in
-    let cross : (n : ℕ) → n * b * (a * s / b) ≡ n * s * a = λ n. omega (arith, ap (λ (x : ℕ). n * x) u) in
     shared (ltb 0 a) _ _
-    ∙ under (ltb 0 a) _ _ (λ k.
-    let v = ltb-true 0 (a * s / b) (sym some ∙ k) in
-    ap₂ (λ (x y : ℕ). word x && word y)
-    (same-floor _ _ _ _ (ltb-true 0 a k) v (cross (p .lo)))
-    (same-ceil _ _ _ _ (ltb-true 0 a k) v (cross (p .hi))))
-    ∙ ap (λ (x : Bool). x && (word (p .lo * s / (a * s / b)) && word (ceilDiv (p .hi * s) (a * s / b)))) (some ∙ twice (ltb 0 (a * s / b)))
+    ∙ under (ltb 0 a) _ _ (λ k. ap words (over-same s a b _ p u (ltb-true 0 a k) (ltb-true 0 (a * s / b) (sym some ∙ k))))
+    ∙ ap (λ (x : Bool). x && words (over s p (exact (a * s / b)))) (some ∙ twice (ltb 0 (a * s / b)))
   where
     twice : (x : Bool) → x ≡ (x && x)
     twice true = refl

@@ -87,22 +87,26 @@ fn ratio_exact(a: u64, b: u64, s: u64) -> bool
     both(0 < s, t.rest == 0)
 }
 
-pub fn times_ratio_fits(p: Pair, a: u64, b: u64, s: u64) -> bool
-    ensures { λ r. ⌜ r ≡ timesRatioFits s p a b ⌝ }
+// a / b is a whole number of units, and p times n / d fits.
+fn exact_fits(p: Pair, a: u64, b: u64, s: u64, n: u64, d: u64) -> bool
+    ensures { λ r. ⌜ r ≡ (exactRatio s a b && ((ltb 0 d && word (p .lo * n / d)) && (ltb 0 d && word (ceilDiv (p .hi * n) d)))) ⌝ }
 {
     both(
         ratio_exact(a, b, s),
-        both(floor_fits(p.lo, a, b), ceil_fits(p.hi, a, b)),
+        both(floor_fits(p.lo, n, d), ceil_fits(p.hi, n, d)),
     )
+}
+
+pub fn times_ratio_fits(p: Pair, a: u64, b: u64, s: u64) -> bool
+    ensures { λ r. ⌜ r ≡ timesRatioFits s p a b ⌝ }
+{
+    exact_fits(p, a, b, s, a, b)
 }
 
 pub fn over_ratio_fits(p: Pair, a: u64, b: u64, s: u64) -> bool
     ensures { λ r. ⌜ r ≡ overRatioFits s p a b ⌝ }
 {
-    both(
-        ratio_exact(a, b, s),
-        both(floor_fits(p.lo, b, a), ceil_fits(p.hi, b, a)),
-    )
+    exact_fits(p, a, b, s, b, a)
 }
 
 // p * s is below 2^70 just where its upper word is below 2^6.

@@ -9,8 +9,8 @@ use lib.ListN.{take, getD}
 use Rattle.questions.specs.declared.Answer.{Answer}
 use Rattle.questions.specs.Claims.{Claim, Holds}
 use Rattle.questions.specs.Answers.{answer}
-use Rattle.questions.specs.Asking.{Asked, _else_, Finding, refusal, met, _then_, firstOf, firstIn}
-use Rattle.questions.specs.Reasons.{Lined, _at-line_, So, AllSo, FirstNo, place, length-told, Reason, Found-as}
+use Rattle.questions.specs.Asking.{Asked, _else_, askedFrom, Finding, refusal, met, _then_, firstOf, firstIn}
+use Rattle.questions.specs.Reasons.{Lined, _at-line_, linedFrom, So, AllSo, FirstNo, place, length-reported, Reason, Found-as}
 use Rattle.questions.proofs.Tests.{decided, holds-test, fails-test}
 
 module _ {R : Type 0} where
@@ -64,15 +64,15 @@ module _ {R : Type 0} where
   then-refused (refusal r₀) g r e = inl e
 
 -- What is told. Each claim's refusal tells the question's number k, the claim's line and the length.
-module _ {R : Type 0} (told : R → Answer) (needed : ℕ) where
+module _ {R : Type 0} (refusalAnswer : R → Answer) (needed : ℕ) where
   abbrev telling : ℕ → ℕ → Answer
-  telling k line = answer k line (length-told needed k)
+  telling k line = answer k line (length-reported needed k)
 
   abbrev pub Told : ℕ → List (Asked R) → List Lined → Type 0
   Told k [] [] = Unit
   Told k [] (l ∷ ls) = ⊥
   Told k (c ∷ cs) [] = ⊥
-  Told k ((a else r) ∷ cs) ((b at-line l) ∷ ls) = (a ≡ b) × (told r ≡ telling k l) × Told k cs ls
+  Told k ((a else r) ∷ cs) ((b at-line l) ∷ ls) = (a ≡ b) × (refusalAnswer r ≡ telling k l) × Told k cs ls
 
   -- the same of several questions, numbered from k on
   abbrev pub ToldFrom : ℕ → List (List (Asked R)) → List (List Lined) → Type 0
@@ -80,6 +80,13 @@ module _ {R : Type 0} (told : R → Answer) (needed : ℕ) where
   ToldFrom k [] (l ∷ ls) = ⊥
   ToldFrom k (cs ∷ qs) [] = ⊥
   ToldFrom k (cs ∷ qs) (l ∷ ls) = Told k cs l × ToldFrom (suc k) qs ls
+
+  -- a claim to each line, where each refusal tells its line
+  pub told-lines : (k : ℕ) (refuse : ℕ → R) → ((l : ℕ) → refusalAnswer (refuse l) ≡ telling k l) → (line : ℕ) (cs : List Claim)
+      → Told k (askedFrom refuse line cs) (linedFrom line cs)
+  unfolding askedFrom linedFrom
+  told-lines k refuse tells line [] = tt
+  told-lines k refuse tells line (a ∷ cs) = (refl, tells line, told-lines k refuse tells (line + 1) cs)
 
   pub all-so : (k : ℕ) (cs : List (Asked R)) (ls : List Lined) → Told k cs ls → All cs ↔ So ls
   all-so k [] [] t = (λ h. tt, λ h. tt)
@@ -90,16 +97,16 @@ module _ {R : Type 0} (told : R → Answer) (needed : ℕ) where
       (λ h. (subst Holds (t .0) (h .0), more .0 (h .1)), λ h. (subst Holds (sym (t .0)) (h .0), more .1 (h .1)))
 
   -- the line and the answer at the first "no", and the other way round
-  line-told : (k : ℕ) (cs : List (Asked R)) (ls : List Lined) (r : R) → Told k cs ls → NoAt cs r → (l : ℕ) × FirstNo ls l × (told r ≡ telling k l)
+  line-told : (k : ℕ) (cs : List (Asked R)) (ls : List Lined) (r : R) → Told k cs ls → NoAt cs r → (l : ℕ) × FirstNo ls l × (refusalAnswer r ≡ telling k l)
   line-told k [] ls r t n = absurd n
   line-told k (c ∷ cs) [] r t n = absurd t
   line-told k ((a else r₀) ∷ cs) ((b at-line l) ∷ ls) r t (inl p) =
-      (l, inl (λ h. p .0 (subst Holds (sym (t .0)) h), refl), ap told (sym (p .1)) ∙ t .1)
+      (l, inl (λ h. p .0 (subst Holds (sym (t .0)) h), refl), ap refusalAnswer (sym (p .1)) ∙ t .1)
   line-told k ((a else r₀) ∷ cs) ((b at-line l) ∷ ls) r t (inr p) =
       let m = line-told k cs ls r (t .2) (p .1) in
       (m .0, inr (subst Holds (t .0) (p .0), m .1), m .2)
 
-  refusal-told : (k : ℕ) (cs : List (Asked R)) (ls : List Lined) (l : ℕ) → Told k cs ls → FirstNo ls l → (r : R) × NoAt cs r × (told r ≡ telling k l)
+  refusal-told : (k : ℕ) (cs : List (Asked R)) (ls : List Lined) (l : ℕ) → Told k cs ls → FirstNo ls l → (r : R) × NoAt cs r × (refusalAnswer r ≡ telling k l)
   refusal-told k [] [] l t n = absurd n
   refusal-told k [] (m ∷ ls) l t n = absurd t
   refusal-told k (c ∷ cs) [] l t n = absurd t
@@ -128,7 +135,7 @@ module _ {R : Type 0} (told : R → Answer) (needed : ℕ) where
   record At (k : ℕ) (ls : List (List Lined)) (r : R) (i : ℕ) (line : ℕ) : Type 0 where
     before : AllSo (take i ls)
     first : FirstNo (getD ls i []) line
-    tells : told r ≡ telling (k + i) line
+    tells : refusalAnswer r ≡ telling (k + i) line
 
   at-when-refused : (k : ℕ) (qs : List (List (Asked R))) (ls : List (List Lined)) (r : R) → ToldFrom k qs ls → firstIn qs ≡ refusal r
       → (i : ℕ) × (line : ℕ) × At k ls r i line
@@ -155,7 +162,7 @@ module _ {R : Type 0} (told : R → Answer) (needed : ℕ) where
       ]
 
   refused-when-at : (k i : ℕ) (qs : List (List (Asked R))) (ls : List (List Lined)) (line : ℕ) → ToldFrom k qs ls → AllSo (take i ls) → FirstNo (getD ls i []) line
-      → Found-as told (firstIn qs) (telling (k + i) line)
+      → Found-as refusalAnswer (firstIn qs) (telling (k + i) line)
   unfolding firstIn
   refused-when-at k i [] [] line t b n = absurd n
   refused-when-at k i [] (l ∷ ls) line t b n = absurd t
@@ -185,7 +192,7 @@ module _ {R : Type 0} (told : R → Answer) (needed : ℕ) where
           size = refl;
         }
 
-    pub found-with-reason : (a : Answer) → Found-as told (firstIn qs) a ↔ Reason k ls needed a
+    pub found-with-reason : (a : Answer) → Found-as refusalAnswer (firstIn qs) a ↔ Reason k ls needed a
     found-with-reason a = (
       λ f.
           let at = at-when-refused k qs ls (f .what) t (f .found) in

@@ -1,9 +1,13 @@
 -- The questions in order: a claim that fails decides, one that holds passes on to the next.
-use mathlib.Core.Path.{_≡_, refl}
+use Prim.Native.Nat.{ℕ, _+_, _≤_, _<_}
+use mathlib.Core.Path.{_≡_, refl, ap, _∙_}
 use mathlib.Core.Bool.{true, false}
-use mathlib.Core.List.{List, [], _∷_, _++_}
-use Rattle.questions.specs.Claims.{Claim, Holds, test}
-use Rattle.questions.specs.Asking.{Asked, _else_, Finding, refusal, met, _then_, firstOf, firstIn, First}
+use mathlib.Core.List.{List, [], _∷_, _++_, map}
+use native.Mathlib.Numerals.{add-one}
+use lib.ListN.{length, getD, drop, drop-of-length-le}
+use lib.Seq.{drop-cons}
+use Rattle.questions.specs.Claims.{Claim, Holds, test, pairwise}
+use Rattle.questions.specs.Asking.{Asked, _else_, askedFrom, Finding, refusal, met, _then_, firstOf, firstIn, First}
 use Rattle.questions.proofs.Tests.{holds-test, fails-test}
 
 module _ {R F : Type 0} {code : Finding R → F} {a : Claim} {r : R} {cs : List (Asked R)} {qs : List (List (Asked R))} where
@@ -44,3 +48,31 @@ module _ {R : Type 0} where
   unfolding firstIn
   in-turn [] qs = refl
   in-turn (cs ∷ ps) qs = rw (in-turn ps qs) (then-then (firstOf cs) (firstIn ps) (firstIn qs))
+
+-- the same claims of a list that is made of another
+pub pairwise-map : {A B C : Type 0} (f : C → B → Claim) (g : A → C) (xs : List A) (ys : List B) → pairwise f (map g xs) ys ≡ pairwise (λ x y. f (g x) y) xs ys
+unfolding pairwise
+pairwise-map f g [] ys = refl
+pairwise-map f g (x ∷ xs) [] = refl
+pairwise-map f g (x ∷ xs) (y ∷ ys) = ap (λ (l : List Claim). f (g x) y ∷ l) (pairwise-map f g xs ys)
+
+-- claims that two lists make place by place, asked line by line: what is found from place i on
+module _ {A B R : Type 0} (f : A → B → Claim) (refuse : ℕ → R) (line : ℕ) (xs : List A) (ys : List B) (i : ℕ) where
+  module _ (d : A) (e : B) (a : i < length xs) (b : i < length ys) where
+    here : askedFrom refuse line (pairwise f (drop i xs) (drop i ys))
+        ≡ (f (getD xs i d) (getD ys i e) else refuse line) ∷ askedFrom refuse (line + 1) (pairwise f (drop (i + 1) xs) (drop (i + 1) ys))
+    unfolding askedFrom pairwise
+    here = rw (add-one i, drop-cons xs i d a, drop-cons ys i e b)
+
+    pub line-fails : test (f (getD xs i d) (getD ys i e)) ≡ false → firstOf (askedFrom refuse line (pairwise f (drop i xs) (drop i ys))) ≡ refusal (refuse line)
+    unfolding firstOf
+    line-fails n = ap firstOf here ∙ rw n
+
+    pub line-passes : test (f (getD xs i d) (getD ys i e)) ≡ true
+        → firstOf (askedFrom refuse line (pairwise f (drop i xs) (drop i ys))) ≡ firstOf (askedFrom refuse (line + 1) (pairwise f (drop (i + 1) xs) (drop (i + 1) ys)))
+    unfolding firstOf
+    line-passes h = ap firstOf here ∙ rw h
+
+  pub lines-pass : length xs ≤ i → firstOf (askedFrom refuse line (pairwise f (drop i xs) (drop i ys))) ≡ met
+  unfolding askedFrom firstOf pairwise
+  lines-pass h = ap (λ (l : List A). firstOf (askedFrom refuse line (pairwise f l (drop i ys)))) (drop-of-length-le xs {i = i} h)

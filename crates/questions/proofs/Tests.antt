@@ -7,7 +7,7 @@ use native.Mathlib.Omega.{arith}
 use borrow.Author.Tests.{leb-true, le-leb, eqb-true, eq-eqb}
 use lib.IntN.{ℤ}
 use Rattle.pair.specs.Integers.{lebℤ}
-use Rattle.pair.proofs.IntegerLaws.{lebℤ-true, le-lebℤ, le-antisymℤ}
+use Rattle.pair.proofs.Numbers.{lebℤ-true, le-lebℤ, le-antisymℤ}
 use Rattle.questions.specs.Claims.{Claim, _≤?_, _≡?_, _is_, _and_, _or_, Holds, test}
 
 both-true : (s t : Bool) → (s && t) ≡ true → (s ≡ true) × (t ≡ true)

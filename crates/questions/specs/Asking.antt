@@ -1,4 +1,5 @@
 -- Questions asked in order, over any type R of refusals: the first "no" decides. (docs/WORKING.md, 15.)
+use Prim.Native.Nat.{ℕ, _+_}
 use mathlib.Core.Bool.{cond}
 use mathlib.Core.List.{List, [], _∷_}
 use mathlib.Core.Path.{_≡_}
@@ -8,6 +9,11 @@ use Rattle.questions.specs.Claims.{Claim, test}
 infix 30 _else_
 pub data Asked (R : Type 0) : Type 0 where
   _else_ : Claim → R → Asked R
+
+-- a claim to each line, the first of them on this line, each with the refusal that names its line
+unfoldable pub askedFrom : {R : Type 0} → (ℕ → R) → ℕ → List Claim → List (Asked R)
+askedFrom refuse line [] = []
+askedFrom refuse line (a ∷ cs) = (a else refuse line) ∷ askedFrom refuse (line + 1) cs
 
 -- what questions find: a refusal, or that all is met
 pub data Finding (R : Type 0) : Type 0 where

@@ -1,5 +1,6 @@
 -- Claims of whole numbers and integers: what they say, and the test that runs.
 use Prim.Native.Nat.{ℕ, _≤_}
+use mathlib.Core.List.{List, [], _∷_}
 use mathlib.Core.Path.{_≡_}
 use mathlib.Core.Logic.{_⊎_}
 use mathlib.Core.Bool.{Bool, _&&_, _||_}
@@ -34,3 +35,9 @@ test (m ≡? n) = eqb m n
 test (x is y) = lebℤ x y && lebℤ y x
 test (a and b) = test a && test b
 test (a or b) = test a || test b
+
+-- the claims that two lists make, place by place
+unfoldable pub pairwise : {A B : Type 0} → (A → B → Claim) → List A → List B → List Claim
+pairwise f [] ys = []
+pairwise f (a ∷ xs) [] = []
+pairwise f (a ∷ xs) (b ∷ ys) = f a b ∷ pairwise f xs ys

@@ -2,7 +2,7 @@
 use Prim.Native.Nat.{ℕ}
 use mathlib.Core.List.{List, [], _∷_}
 use lib.ListN.{length}
-use Rattle.text.specs.Lines.{over}
+use Rattle.questions.specs.Buffers.{over}
 use Rattle.questions.specs.declared.Answer.{Answer}
 use Rattle.questions.specs.Claims.{_≤?_}
 use Rattle.questions.specs.Answers.{answer}
@@ -15,9 +15,9 @@ pub data Outcome (R : Type 0) : Type 0 where
 
 module _ {R : Type 0} where
   -- what is written where no question refuses
-  unfoldable pub settled : Finding R → List ℕ → Outcome R
-  settled (refusal r) t = refused r
-  settled met t = written t
+  unfoldable pub writtenIfMet : Finding R → List ℕ → Outcome R
+  writtenIfMet (refusal r) t = refused r
+  writtenIfMet met t = written t
 
   -- Does it fit the buffer? No: 12, with the length needed.
   unfoldable pub fitting : (ℕ → R) → ℕ → List ℕ → List (Asked R)
@@ -25,7 +25,7 @@ module _ {R : Type 0} where
 
   -- a text that is to be written
   unfoldable pub fitted : (ℕ → R) → ℕ → List ℕ → Outcome R
-  fitted short room t = settled (firstOf (fitting short room t)) t
+  fitted short room t = writtenIfMet (firstOf (fitting short room t)) t
 
   -- the buffer afterwards, which a refusal leaves as it was
   unfoldable pub bufferAfter : Outcome R → List ℕ → List ℕ
@@ -34,12 +34,12 @@ module _ {R : Type 0} where
 
   -- what is answered: the length of the text that was written
   unfoldable pub answerOf : (R → Answer) → Outcome R → Answer
-  answerOf told (refused r) = told r
-  answerOf told (written t) = answer 0 0 (length t)
+  answerOf refusalAnswer (refused r) = refusalAnswer r
+  answerOf refusalAnswer (written t) = answer 0 0 (length t)
 
   -- the same for a call that is passed the buffer b, o being what happens in each room
   abbrev pub answerIn : (R → Answer) → (ℕ → Outcome R) → List ℕ → Answer
-  answerIn told o b = answerOf told (o (length b))
+  answerIn refusalAnswer o b = answerOf refusalAnswer (o (length b))
 
   abbrev pub bufferIn : (ℕ → Outcome R) → List ℕ → List ℕ
   bufferIn o b = bufferAfter (o (length b)) b

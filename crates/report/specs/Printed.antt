@@ -1,39 +1,41 @@
 -- What the programs print for the bytes that they read. (Document 01, "Sheet and certificate": "A program reads a sheet from standard
 -- input and prints the certificate, or the two lines refused= and line=, each with its number.")
 use Prim.Native.Nat.{ℕ}
-use mathlib.Core.List.{List, [], _∷_, _++_}
+use Prim.Native.String.{String}
+use mathlib.Core.List.{List, _++_}
+use lib.IntN.{pos}
 use lib.ListN.{length}
-use Rattle.text.specs.Keys.{bytes, newline, certificateLines}
-use Rattle.text.specs.Decimal.{decimal}
-use Rattle.text.specs.Lines.{longest}
+use Rattle.lines.specs.declared.keys.Kind.the-variants.{Number}
+use Rattle.lines.specs.Texts.{lineText, longest}
 use Rattle.questions.specs.declared.Answer.{Answer}
 use Rattle.questions.specs.Asking.{Finding, refusal, met}
 use Rattle.questions.specs.Outcomes.{Outcome, refused, written}
 use Rattle.certificate.specs.declared.Refusal.{Refusal}
-use Rattle.certificate.specs.Refusals.{told}
+use Rattle.certificate.specs.Keys.{_holds_, certificateFields}
+use Rattle.certificate.specs.Refusals.{refusalAnswer}
 use Rattle.certificate.specs.Outcome.{outcome, checked}
 
 -- a line key=number; the key has its '='
-unfoldable pub numberLine : List ℕ → ℕ → List ℕ
-numberLine key n = key ++ (decimal n ++ (newline ∷ []))
+unfoldable pub numberLine : String → ℕ → List ℕ
+numberLine key n = lineText (key holds Number) (pos n)
 
 -- the two lines of a refusal
 unfoldable pub refusalLines : Answer → List ℕ
-refusalLines a = numberLine (bytes "refused=") (a .refusal) ++ numberLine (bytes "line=") (a .line)
+refusalLines a = numberLine "refused=" (a .refusal) ++ numberLine "line=" (a .line)
 
 -- of what writing does
 unfoldable pub outcomePrints : Outcome Refusal → List ℕ
 outcomePrints (written t) = t
-outcomePrints (refused r) = refusalLines (told r)
+outcomePrints (refused r) = refusalLines (refusalAnswer r)
 
 -- `certify`, for a sheet: its certificate, the room being that of the longest, or the refusal
 unfoldable pub certifyPrints : List ℕ → List ℕ
-certifyPrints s = outcomePrints (outcome s (longest certificateLines))
+certifyPrints s = outcomePrints (outcome s (longest certificateFields))
 
 -- of what checking finds in the certificate c
 unfoldable pub foundPrints : List ℕ → Finding Refusal → List ℕ
-foundPrints c met = numberLine (bytes "passed=") (length c)
-foundPrints c (refusal r) = refusalLines (told r)
+foundPrints c met = numberLine "passed=" (length c)
+foundPrints c (refusal r) = refusalLines (refusalAnswer r)
 
 -- `verify`, for a certificate: that it passed, with its length, or the refusal
 unfoldable pub verifyPrints : List ℕ → List ℕ

@@ -1,29 +1,54 @@
 // What the programs print for the bytes that they read: specs/Printed.
+use certificate::LONGEST_CERTIFICATE;
 use certificate::certificates;
+use lines::keys::Key;
+use lines::keys::Kind;
+use lines::writing;
+use pair::signed::Integer;
 use questions::Answer;
-use text::LONGEST_CERTIFICATE;
-use text::decimal;
 ghost use mathlib.Core.Path.{_≡_};
 ghost use Prim.Native.Nat.{_+_, _≤_};
 ghost use lib.ListN.{length};
-ghost use Rattle.text.specs.Lines.{over};
-ghost use Rattle.report.specs.Printed.{numberLine, refusalLines, certifyPrints, verifyPrints};
+ghost use lib.IntN.{pos};
+ghost use Rattle.questions.specs.Buffers.{over};
+ghost use Rattle.lines.specs.declared.keys.Kind.the-variants.{Number};
+ghost use Rattle.lines.specs.Fields.{field};
+ghost use Rattle.lines.specs.Texts.{lineText};
+ghost use Rattle.report.specs.Printed.{refusalLines, certifyPrints, verifyPrints};
 
 // The most bytes that the two lines of a refusal take, a number having at most 20 digits.
 pub const LONGEST_REFUSAL: usize = 8 + 20 + 1 + 5 + 20 + 1;
 
+const REFUSED: Key = Key {
+    text: *b"refused=",
+    length: 8,
+    kind: Kind::Number,
+};
+
+const LINE: Key = Key {
+    text: *b"line=\0\0\0",
+    length: 5,
+    kind: Kind::Number,
+};
+
+const PASSED: Key = Key {
+    text: *b"passed=\0",
+    length: 7,
+    kind: Kind::Number,
+};
+
 // Writes a line key=number at the start of out, and answers its length.
-fn put_line(out: &mut [u8], key: &[u8], n: u64) -> usize
-    requires { ⌜ length (now key) + 21 ≤ length (now out) ⌝ }
-    ensures { λ r. ⌜ r ≡ length (numberLine (now (key .entry)) n) ⌝ }
-    ensures { λ r. ⌜ r ≤ length (now (key .entry)) + 21 ⌝ }
-    ensures { λ _. ⌜ now (out .exit) ≡ over (numberLine (now (key .entry)) n) (now (out .entry)) ⌝ }
+fn put_number(out: &mut [u8], key: Key, n: u64) -> usize
+    requires { ⌜ (field key .kind ≡ Number) × (length (field key .key) + 21 ≤ length (now out)) ⌝ }
+    ensures { λ r. ⌜ r ≡ length (lineText (field key) (pos n)) ⌝ }
+    ensures { λ r. ⌜ r ≤ length (field key .key) + 21 ⌝ }
+    ensures { λ _. ⌜ now (out .exit) ≡ over (lineText (field key) (pos n)) (now (out .entry)) ⌝ }
 {
-    let k = bytes::copy(key, out);
-    let end = k + decimal::put_decimal(&mut out[k..], n);
-    let next = end + 1;
-    out[end] = b'\n';
-    next
+    let v = Integer {
+        below: false,
+        size: n,
+    };
+    writing::put_line(out, key, v)
 }
 
 // Writes the two lines of a refusal at the start of out, and answers their length.
@@ -32,8 +57,8 @@ fn put_refusal(out: &mut [u8], answer: Answer) -> usize
     ensures { λ r. ⌜ r ≡ length (refusalLines answer) ⌝ }
     ensures { λ _. ⌜ now (out .exit) ≡ over (refusalLines answer) (now (out .entry)) ⌝ }
 {
-    let at = put_line(out, b"refused=", answer.refusal);
-    at + put_line(&mut out[at..], b"line=", answer.line)
+    let at = put_number(out, REFUSED, answer.refusal);
+    at + put_number(&mut out[at..], LINE, answer.line)
 }
 
 // Writes what `certify` prints for a sheet at the start of out, and answers its length. The last clause
@@ -60,5 +85,5 @@ pub fn verify_prints(certificate: &[u8], out: &mut [u8; LONGEST_REFUSAL]) -> usi
     if answer.refusal != 0 {
         return put_refusal(out, answer);
     }
-    put_line(out, b"passed=", answer.length)
+    put_number(out, PASSED, answer.length)
 }

@@ -1,14 +1,14 @@
 // Reading standard input and writing standard output.
+use certificate::LONGEST_CERTIFICATE;
+use certificate::LONGEST_SHEET;
 use libc::STDERR_FILENO;
 use libc::STDIN_FILENO;
 use libc::STDOUT_FILENO;
-use text::LONGEST_CERTIFICATE;
-use text::LONGEST_SHEET;
 ghost use mathlib.Core.Path.{_≡_};
 ghost use Prim.Native.Nat.{suc};
 ghost use lib.ListN.{length, take, replicate};
-ghost use Rattle.text.specs.Keys.{sheetLines, certificateLines};
-ghost use Rattle.text.specs.Lines.{longest};
+ghost use Rattle.lines.specs.Texts.{longest};
+ghost use Rattle.certificate.specs.Keys.{sheetFields, certificateFields};
 ghost use Rattle.report.specs.Streams.{Within};
 
 // What reading gives: so many bytes, or that a read failed.
@@ -20,16 +20,16 @@ pub enum Input {
 // Room for the longest sheet and one byte: what stands behind does not change what is printed
 // (`certify-cut` in proofs/Promises).
 pub fn sheet_buffer() -> [u8; LONGEST_SHEET + 1]
-    ensures { λ r. ⌜ suc (longest sheetLines) ≡ length r ⌝ }
-    ensures { λ r. ⌜ r ≡ replicate (suc (longest sheetLines)) 0 ⌝ }
+    ensures { λ r. ⌜ suc (longest sheetFields) ≡ length r ⌝ }
+    ensures { λ r. ⌜ r ≡ replicate (suc (longest sheetFields)) 0 ⌝ }
 {
     [0; LONGEST_SHEET + 1]
 }
 
 // The same for a certificate (`verify-cut`).
 pub fn certificate_buffer() -> [u8; LONGEST_CERTIFICATE + 1]
-    ensures { λ r. ⌜ suc (longest certificateLines) ≡ length r ⌝ }
-    ensures { λ r. ⌜ r ≡ replicate (suc (longest certificateLines)) 0 ⌝ }
+    ensures { λ r. ⌜ suc (longest certificateFields) ≡ length r ⌝ }
+    ensures { λ r. ⌜ r ≡ replicate (suc (longest certificateFields)) 0 ⌝ }
 {
     [0; LONGEST_CERTIFICATE + 1]
 }

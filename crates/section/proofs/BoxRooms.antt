@@ -10,9 +10,7 @@ use Rattle.pair.specs.SignedPairs.{SignedPair, signed, difference, signedPlus}
 use Rattle.pair.specs.Fits.{ratioFits, plusFits, timesFits, overFits, timesRatioFits, overRatioFits, rootFits, signedPlusFits}
 use Rattle.pair.specs.Enclosure.{Inside, Positive, Reaches}
 use Rattle.pair.specs.declared.Pair.{Pair}
-use Rattle.pair.proofs.Laws.{times-comm, fine-positive, inside-ordered, positive-inside, ratio-positive, ratio-ordered}
-use Rattle.pair.proofs.Bounds.{ratio-box, ratio-fits, plus-fits, times-fits, over-fits, over-box, times-ratio-fits, over-ratio-fits, root-fits, box-wider}
-use Rattle.pair.proofs.SignedBounds.{signed-reaches, difference-reaches, signed-plus-reaches, signed-plus-fits}
+use Rattle.pair.proofs.Laws.{times-comm, fine-positive, inside-ordered, positive-inside, ratio-positive, ratio-ordered, ratio-box, ratio-fits, plus-fits, times-fits, over-fits, over-box, times-ratio-fits, over-ratio-fits, root-fits, box-wider, signed-reaches, difference-reaches, signed-plus-reaches, signed-plus-fits}
 use Rattle.section.specs.Working.{S, constant, mm, whole}
 use Rattle.section.specs.Parts.{Fine}
 use Rattle.section.specs.Room.{Slim, Factor}

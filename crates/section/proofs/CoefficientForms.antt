@@ -10,9 +10,7 @@ use Rattle.pair.specs.Pairs.{_to_, ratio, minus, times, cubeRoot}
 use Rattle.pair.specs.Fits.{ratioFits}
 use Rattle.pair.specs.Enclosure.{Inside}
 use Rattle.pair.specs.declared.Pair.{Pair}
-use Rattle.pair.proofs.Laws.{same-scale}
-use Rattle.pair.proofs.Nesting.{inside}
-use Rattle.pair.proofs.Bounds.{minus-box, times-box, cube-root-box, plus-box, minus-fits, cube-root-fits}
+use Rattle.pair.proofs.Laws.{same-scale, inside, minus-box, times-box, cube-root-box, plus-box, minus-fits, cube-root-fits}
 use Rattle.section.specs.Working.{S, units, constant, k-past, k-at, k}
 use Rattle.section.specs.Parts.{Fine}
 use Rattle.section.specs.Room.{PastRoom, LipRatio}

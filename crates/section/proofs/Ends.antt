@@ -9,8 +9,7 @@ use native.Mathlib.Omega.{arith}
 use lib.Dec.{lit<, lit≤}
 use Rattle.pair.specs.Fits.{exactRatio}
 use Rattle.pair.specs.Enclosure.{Finer, Inside}
-use Rattle.pair.proofs.Laws.{same-scale, ratio-inside}
-use Rattle.pair.proofs.Bounds.{exact-ratio, ratio-box}
+use Rattle.pair.proofs.Laws.{same-scale, ratio-inside, exact-ratio, ratio-box}
 use Rattle.section.specs.Working.{S, constant, units}
 use Rattle.section.specs.Constants.{Exact, ConstantsExact}
 use Rattle.section.specs.Parts.{Fine}

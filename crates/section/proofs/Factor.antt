@@ -10,9 +10,9 @@ use Rattle.pair.specs.Rounding.{ceilDiv}
 use Rattle.pair.specs.Pairs.{_to_}
 use Rattle.pair.specs.Enclosure.{Inside, AtMost}
 use Rattle.pair.specs.declared.Pair.{Pair}
-use Rattle.pair.proofs.Quotients.{cross-down, cross-up, cross-mid, ceil-le, le-ceil, sub-mul, pos-left}
-use Rattle.pair.proofs.Bounds.{box-wider}
-use Rattle.section.specs.Working.{S, units, χ, χ-before-down, χ-before-up, χ-from-down, χ-from-up}
+use Rattle.pair.proofs.Numbers.{cross-down, cross-up, cross-mid, ceil-le, le-ceil, sub-mul, pos-left}
+use Rattle.pair.proofs.Laws.{box-wider}
+use Rattle.section.specs.Working.{S, units, χ, χ-before, χ-from}
 use Rattle.section.proofs.Ends.{units-finer, min-down, min-up, min-left, min-right, max-left, max-right}
 
 -- 1.38, where the rule jumps; 0.47226, to which it falls there, and 0.66/1.38, to which it jumps up
@@ -30,16 +30,16 @@ abbrev line : ℕ → ℕ → ℕ
 line n u = 1470 * S n - 723 * u
 
 -- up to 0.65 the line is above 1, so the test changes nothing
-line-down : (n u : ℕ) → χ-before-down n u ≡ min (S n) (line n u / 1000)
-unfolding χ-before-down
+line-down : (n u : ℕ) → χ-before n _/_ u ≡ min (S n) (line n u / 1000)
+unfolding χ-before
 line-down n u = by-outcome (leb u (units n 65 100)) refl
   where
     by-outcome : (b : Bool) → leb u (units n 65 100) ≡ b → cond b (S n) (min (S n) (line n u / 1000)) ≡ min (S n) (line n u / 1000)
     by-outcome true e = omega (arith, leb-true u (units n 65 100) e)
     by-outcome false e = refl
 
-line-up : (n u : ℕ) → χ-before-up n u ≡ min (S n) (ceilDiv (line n u) 1000)
-unfolding χ-before-up
+line-up : (n u : ℕ) → χ-before n ceilDiv u ≡ min (S n) (ceilDiv (line n u) 1000)
+unfolding χ-before
 line-up n u = by-outcome (leb u (units n 65 100)) refl
   where
     by-outcome : (b : Bool) → leb u (units n 65 100) ≡ b → cond b (S n) (min (S n) (ceilDiv (line n u) 1000)) ≡ min (S n) (ceilDiv (line n u) 1000)
@@ -52,47 +52,47 @@ module _ (n : ℕ) (n⁺ : 0 < n) (m : ℕ) (m⁺ : 0 < m) where
 
   -- below 1.38
 
-  before-low : (b B : ℕ) → B ≤ b * m → χ-before-down n b * m ≤ χ-before-down (m * n) B
+  before-low : (b B : ℕ) → B ≤ b * m → χ-before n _/_ b * m ≤ χ-before (m * n) _/_ B
   before-low b B h =
       rw (line-down n b, line-down (m * n) B, mul-assoc m n 1000000)
       (min-down (S n) (line n b / 1000) _ m (cross-down (line n b) 1000 _ 1000 m (lit< tt) (lit< tt) (mul-le-mul-right 1000 (rw sub-mul (omega arith)))))
 
-  before-high : (a A : ℕ) → a * m ≤ A → χ-before-up (m * n) A ≤ χ-before-up n a * m
+  before-high : (a A : ℕ) → a * m ≤ A → χ-before (m * n) ceilDiv A ≤ χ-before n ceilDiv a * m
   before-high a A h =
       rw (line-up n a, line-up (m * n) A, mul-assoc m n 1000000)
       (min-up (S n) (ceilDiv (line n a) 1000) _ m (cross-up (line n a) 1000 _ 1000 m (lit< tt) (lit< tt) (mul-le-mul-right 1000 (rw sub-mul (omega arith)))))
 
-  before-mid : (A B : ℕ) → A ≤ B → χ-before-down (m * n) B ≤ χ-before-up (m * n) A
+  before-mid : (A B : ℕ) → A ≤ B → χ-before (m * n) _/_ B ≤ χ-before (m * n) ceilDiv A
   before-mid A B h =
       rw (line-down (m * n) B, line-up (m * n) A)
       (omega (arith, cross-mid (line (m * n) B) 1000 (line (m * n) A) 1000 (lit< tt) (lit< tt) (mul-le-mul-right 1000 (omega arith))))
 
   -- just below 1.38 it is above 0.47226
-  before-least : (B : ℕ) → B < edge (m * n) → falls-to n * m ≤ χ-before-down (m * n) B
+  before-least : (B : ℕ) → B < edge (m * n) → falls-to n * m ≤ χ-before (m * n) _/_ B
   before-least B h = rw (line-down (m * n) B, ← (units-finer m n 47226 100000 refl)) (omega arith)
 
   -- from 1.38
 
-  from-low : (b B : ℕ) → 0 < B → B ≤ b * m → χ-from-down n b * m ≤ χ-from-down (m * n) B
-  unfolding χ-from-down
+  from-low : (b B : ℕ) → 0 < B → B ≤ b * m → χ-from n _/_ b * m ≤ χ-from (m * n) _/_ B
+  unfolding χ-from
   from-low b B p h =
       cross-down (66 * (S n * S n)) (100 * b) (66 * (S (m * n) * S (m * n))) (100 * B) m
       (omega (arith, pos-left b m (omega arith))) (omega arith) (omega (arith, mul-le-mul-left (m * n * n) h))
 
-  from-high : (a A : ℕ) → 0 < a → a * m ≤ A → χ-from-up (m * n) A ≤ χ-from-up n a * m
-  unfolding χ-from-up
+  from-high : (a A : ℕ) → 0 < a → a * m ≤ A → χ-from (m * n) ceilDiv A ≤ χ-from n ceilDiv a * m
+  unfolding χ-from
   from-high a A p h =
       cross-up (66 * (S n * S n)) (100 * a) (66 * (S (m * n) * S (m * n))) (100 * A) m
       (omega arith) (omega (arith, mul-pos p m⁺)) (omega (arith, mul-le-mul-left (m * n * n) h))
 
-  from-mid : (A B : ℕ) → 0 < A → A ≤ B → χ-from-down (m * n) B ≤ χ-from-up (m * n) A
-  unfolding χ-from-down χ-from-up
+  from-mid : (A B : ℕ) → 0 < A → A ≤ B → χ-from (m * n) _/_ B ≤ χ-from (m * n) ceilDiv A
+  unfolding χ-from
   from-mid A B p h = cross-mid _ _ _ _ (omega arith) (omega arith) (omega (arith, mul-le-mul-left (66 * (S (m * n) * S (m * n))) h))
 
   -- what the rule jumps to at 1.38
 
-  jump-high : (A : ℕ) → edge (m * n) ≤ A → χ-from-up (m * n) A ≤ jumps-to n * m
-  unfolding χ-from-up
+  jump-high : (A : ℕ) → edge (m * n) ≤ A → χ-from (m * n) ceilDiv A ≤ jumps-to n * m
+  unfolding χ-from
   jump-high A h =
       let edge : 1380000 * (m * n) ≤ A = omega arith in
       cross-up (66 * S n) 138 (66 * (S (m * n) * S (m * n))) (100 * A) m (lit< tt) (omega (arith, mn⁺)) (omega (arith, mul-le-mul-left (m * n) edge))
@@ -112,19 +112,19 @@ module _ (n : ℕ) (n⁺ : 0 < n) (m : ℕ) (m⁺ : 0 < m) where
     where
       by-outcome : (p q P Q : Bool) → ltb b (edge n) ≡ p → ltb a (edge n) ≡ q → ltb B (edge (m * n)) ≡ P → ltb A (edge (m * n)) ≡ Q
           → Inside m
-          (cond P (χ-before-down (m * n) B to χ-before-up (m * n) A)
-          (cond Q (min (falls-to (m * n)) (χ-from-down (m * n) B) to max (jumps-to (m * n)) (χ-before-up (m * n) A))
-          (χ-from-down (m * n) B to χ-from-up (m * n) A)))
-          (cond p (χ-before-down n b to χ-before-up n a)
-          (cond q (min (falls-to n) (χ-from-down n b) to max (jumps-to n) (χ-before-up n a))
-          (χ-from-down n b to χ-from-up n a)))
+          (cond P (χ-before (m * n) _/_ B to χ-before (m * n) ceilDiv A)
+          (cond Q (min (falls-to (m * n)) (χ-from (m * n) _/_ B) to max (jumps-to (m * n)) (χ-before (m * n) ceilDiv A))
+          (χ-from (m * n) _/_ B to χ-from (m * n) ceilDiv A)))
+          (cond p (χ-before n _/_ b to χ-before n ceilDiv a)
+          (cond q (min (falls-to n) (χ-from n _/_ b) to max (jumps-to n) (χ-before n ceilDiv a))
+          (χ-from n _/_ b to χ-from n ceilDiv a)))
       by-outcome true q true Q e f g h = record { low = before-low b B (i .high); mid = before-mid A B (i .mid); high = before-high a A (i .low) }
       by-outcome true q false Q e f g h = absurd (omega (arith, units-finer m n 138 100 refl, mul-le-mul-right m (ltb-true b (edge n) e), ltb-false B (edge (m * n)) g, i .high))
       by-outcome false true true Q e f g h =
           record {
-            low = le-trans (min-left (falls-to n) (χ-from-down n b) m) (before-least B (ltb-true B (edge (m * n)) g));
+            low = le-trans (min-left (falls-to n) (χ-from n _/_ b) m) (before-least B (ltb-true B (edge (m * n)) g));
             mid = before-mid A B (i .mid);
-            high = le-trans (before-high a A (i .low)) (max-right (jumps-to n) (χ-before-up n a) m);
+            high = le-trans (before-high a A (i .low)) (max-right (jumps-to n) (χ-before n ceilDiv a) m);
           }
       by-outcome false true false true e f g h =
           record {
@@ -132,19 +132,19 @@ module _ (n : ℕ) (n⁺ : 0 < n) (m : ℕ) (m⁺ : 0 < m) where
                 omega (
                   arith,
                   units-finer m n 47226 100000 refl,
-                  min-left (falls-to n) (χ-from-down n b) m,
-                  min-right (falls-to n) (χ-from-down n b) m,
+                  min-left (falls-to n) (χ-from n _/_ b) m,
+                  min-right (falls-to n) (χ-from n _/_ b) m,
                   from-low b B (past (ltb-false B (edge (m * n)) g)) (i .high),
                 );
             mid = omega (arith, jump-mid);
-            high = omega (arith, jump-up, before-high a A (i .low), max-left (jumps-to n) (χ-before-up n a) m, max-right (jumps-to n) (χ-before-up n a) m);
+            high = omega (arith, jump-up, before-high a A (i .low), max-left (jumps-to n) (χ-before n ceilDiv a) m, max-right (jumps-to n) (χ-before n ceilDiv a) m);
           }
       by-outcome false true false false e f g h =
           let k : edge (m * n) ≤ A = ltb-false A (edge (m * n)) h in
           record {
-            low = le-trans (min-right (falls-to n) (χ-from-down n b) m) (from-low b B (le-trans (past k) (i .mid)) (i .high));
+            low = le-trans (min-right (falls-to n) (χ-from n _/_ b) m) (from-low b B (le-trans (past k) (i .mid)) (i .high));
             mid = from-mid A B (past k) (i .mid);
-            high = le-trans (jump-high A k) (max-left (jumps-to n) (χ-before-up n a) m);
+            high = le-trans (jump-high A k) (max-left (jumps-to n) (χ-before n ceilDiv a) m);
           }
       by-outcome false false true Q e f g h = absurd (omega (arith, units-finer m n 138 100 refl, mul-le-mul-right m (ltb-false a (edge n) f), ltb-true B (edge (m * n)) g, i .low, i .mid))
       by-outcome false false false true e f g h = absurd (omega (arith, units-finer m n 138 100 refl, mul-le-mul-right m (ltb-false a (edge n) f), ltb-true A (edge (m * n)) h, i .low))
@@ -161,11 +161,11 @@ pub χ-inside : {n m : ℕ} {U u : Pair} → 0 < n → 0 < m → Inside m U u �
 
 -- χ is at most 1
 
-before-most : (n u : ℕ) → χ-before-up n u ≤ S n
+before-most : (n u : ℕ) → χ-before n ceilDiv u ≤ S n
 before-most n u = rw (line-up n u) (min-le-left _ _)
 
-from-most : (n u : ℕ) → 0 < n → edge n ≤ u → χ-from-up n u ≤ S n
-unfolding χ-from-up
+from-most : (n u : ℕ) → 0 < n → edge n ≤ u → χ-from n ceilDiv u ≤ S n
+unfolding χ-from
 from-most n u n⁺ h =
     let edge : 1380000 * n ≤ u = omega arith in
     ceil-le (omega arith) (omega (arith, mul-le-mul-left n edge))
@@ -175,9 +175,9 @@ unfolding χ
 χ-most n u n⁺ = record { high = by-outcome (ltb (u .hi) (edge n)) (ltb (u .lo) (edge n)) refl }
   where
     by-outcome : (p q : Bool) → ltb (u .lo) (edge n) ≡ q
-        → (cond p (χ-before-down n (u .hi) to χ-before-up n (u .lo))
-        (cond q (min (falls-to n) (χ-from-down n (u .hi)) to max (jumps-to n) (χ-before-up n (u .lo)))
-        (χ-from-down n (u .hi) to χ-from-up n (u .lo)))) .hi ≤ S n
+        → (cond p (χ-before n _/_ (u .hi) to χ-before n ceilDiv (u .lo))
+        (cond q (min (falls-to n) (χ-from n _/_ (u .hi)) to max (jumps-to n) (χ-before n ceilDiv (u .lo)))
+        (χ-from n _/_ (u .hi) to χ-from n ceilDiv (u .lo)))) .hi ≤ S n
     by-outcome true q e = before-most n (u .lo)
     by-outcome false true e = max-le (ceil-le (lit< tt) (omega arith)) (before-most n (u .lo))
     by-outcome false false e = from-most n (u .lo) n⁺ (ltb-false (u .lo) (edge n) e)

@@ -4,20 +4,18 @@ use mathlib.Core.Path.{refl}
 use native.Mathlib.Nat.{mul-pos, mul-one}
 use native.Mathlib.Omega.{arith}
 use lib.Dec.{lit<}
-use Rattle.pair.specs.Pairs.{ratio, times, over, root}
+use Rattle.pair.specs.Pairs.{ratio, times, over}
 use Rattle.pair.specs.Enclosure.{Inside, SignedInside, Positive, AtLeast}
 use Rattle.pair.specs.declared.Pair.{Pair}
-use Rattle.pair.proofs.Laws.{minus-inside}
-use Rattle.pair.proofs.Bounds.{at-least-positive, own-least, exact-at-least, times-at-least}
-use Rattle.pair.proofs.Ratios.{ratio-exact}
-use Rattle.pair.proofs.Nesting as nesting
+use Rattle.pair.proofs.Laws.{minus-inside, at-least-positive, own-least, exact-at-least, times-at-least, ratio-exact, inside as pair-inside}
 use Rattle.section.specs.declared.Flange.{Flange}
+use Rattle.section.specs.declared.Common.{Common}
 use Rattle.section.specs.declared.Stiffener.{Stiffener}
-use Rattle.section.specs.declared.Kept.{Kept}
-use Rattle.section.specs.Working.{S, whole, mid-line, lip-line, u², ρ-plane, half-kept, flange-of, stiffener-of, g, J, T, kf, D, ud, χ-of, full}
+use Rattle.section.specs.declared.EffectiveParts.{EffectiveParts}
+use Rattle.section.specs.Working.{S, whole, core, mid-line, lip-line, u², half-kept, flange-of, stiffener-of, g, J, T, kf, D, ud, χ-of, web-kept, full-flange, full}
 use Rattle.section.specs.Working.{L, lip-moment, flange-moment, far-web-moment, near-web-moment, near-lip-moment, moment, z}
 use Rattle.section.specs.Uncut.{taken-off}
-use Rattle.section.proofs.PartsInside.{FlangeInside, StiffenerInside, KeptInside}
+use Rattle.section.proofs.PartsInside.{FlangeInside, StiffenerInside, EffectiveFlangeInside, EffectivePartsInside, CommonInside}
 use Rattle.section.proofs.Ends.{scale-positive, finer, constant-exact, constant-inside}
 use Rattle.section.proofs.Shares.{ρ-plane-inside, ρ-lip-inside}
 use Rattle.section.proofs.Factor.{χ-inside}
@@ -29,7 +27,7 @@ whole-times-positive {n} v {a} n⁺ v⁺ p =
     let least : AtLeast (v * S n) (ratio (S n) v 1) = rw (ratio-exact (S n) v 1 (v * S n) (lit< tt) (mul-one _)) (exact-at-least _) in
     at-least-positive (mul-pos v⁺ (p .low)) (times-at-least (S n) (v * a .lo) (scale-positive n⁺) least (own-least a) (omega arith))
 
-ruleset inside = (nesting.inside, finer, constant-exact, lit<, whole-times-positive, ρ-plane-inside, ρ-lip-inside, χ-inside, k-inside, k-positive)
+ruleset inside = (pair-inside, finer, constant-exact, lit<, whole-times-positive, ρ-plane-inside, ρ-lip-inside, χ-inside, k-inside, k-positive)
 
 module _ {n m : ℕ} (n⁺ : 0 < n) (m⁺ : 0 < m) where
   pub mid-line-inside : (w tnom : ℕ) → Inside m (mid-line (m * n) w tnom) (mid-line n w tnom)
@@ -49,9 +47,9 @@ module _ {n m : ℕ} (n⁺ : 0 < n) (m⁺ : 0 < m) where
   half-kept-inside r w = search inside depth 20
 
   -- he of the web
-  pub web-inside : {t t′ fyb fyb′ hp hp′ : Pair} → Positive t → Inside m t′ t → Inside m fyb′ fyb → Inside m hp′ hp
-      → Inside m (half-kept (m * n) (ρ-plane (m * n) (root (S (m * n)) (u² (m * n) t′ fyb′ (whole (m * n) 4) hp′))) hp′) (half-kept n (ρ-plane n (root (S n) (u² n t fyb (whole n 4) hp))) hp)
-  web-inside t⁺ t fyb hp = search (inside, half-kept-inside, u²-inside) depth 20
+  pub web-inside : {x x′ : Common} → Positive (core n x) → CommonInside n m x′ x → Inside m (web-kept (m * n) x′) (web-kept n x)
+  unfolding web-kept
+  web-inside t⁺ x = search (inside, half-kept-inside, u²-inside) depth 20
 
   -- stiffeners
 
@@ -93,15 +91,15 @@ module _ {n m : ℕ} (n⁺ : 0 < n) (m⁺ : 0 < m) where
   unfolding ud
   ud-inside J⁺ D J T = search inside depth 20
 
-  pub χ-of-inside : {t t′ fyb fyb′ hp hp′ kf kf′ g g′ o o′ : Pair} {s s′ : Stiffener} → Positive t → Positive (s .a) → Positive (J n t s)
-      → Inside m t′ t → Inside m fyb′ fyb → Inside m hp′ hp → Inside m kf′ kf → Inside m g′ g → Inside m o′ o → StiffenerInside m s′ s
-      → Inside m (χ-of (m * n) t′ fyb′ hp′ kf′ g′ o′ s′) (χ-of n t fyb hp kf g o s)
+  pub χ-of-inside : {x x′ : Common} {kf kf′ g g′ o o′ : Pair} {s s′ : Stiffener} → Positive (core n x) → Positive (s .a) → Positive (J n (core n x) s)
+      → CommonInside n m x′ x → Inside m kf′ kf → Inside m g′ g → Inside m o′ o → StiffenerInside m s′ s
+      → Inside m (χ-of (m * n) x′ kf′ g′ o′ s′) (χ-of n x kf g o s)
   unfolding χ-of
-  χ-of-inside t⁺ a⁺ J⁺ t fyb hp kf g o s = search (χ-inside, ud-inside, D-inside, J-inside, T-inside) depth 20
+  χ-of-inside t⁺ a⁺ J⁺ x kf g o s = search (χ-inside, ud-inside, D-inside, J-inside, T-inside) depth 20
 
   -- area and shift
 
-  pub L-inside : {x x′ : Kept} → KeptInside m x′ x → Inside m (L (m * n) x′) (L n x)
+  pub L-inside : {x x′ : EffectiveParts} → EffectivePartsInside m x′ x → Inside m (L (m * n) x′) (L n x)
   unfolding L
   L-inside x = search inside depth 20
 
@@ -126,29 +124,26 @@ module _ {n m : ℕ} (n⁺ : 0 < n) (m⁺ : 0 < m) where
   unfolding near-lip-moment
   near-lip-moment-inside c₁ χ₁ = search inside depth 20
 
-  pub moment-inside : {hp hp′ : Pair} {x x′ : Kept} → Inside m hp′ hp → KeptInside m x′ x → SignedInside m (moment (m * n) hp′ x′) (moment n hp x)
+  pub moment-inside : {hp hp′ : Pair} {x x′ : EffectiveParts} → Inside m hp′ hp → EffectivePartsInside m x′ x → SignedInside m (moment (m * n) hp′ x′) (moment n hp x)
   unfolding moment
-  moment-inside hp x = search (nesting.inside, lip-moment-inside, flange-moment-inside, far-web-moment-inside, near-web-moment-inside, near-lip-moment-inside) depth 20
+  moment-inside hp x = search (pair-inside, lip-moment-inside, flange-moment-inside, far-web-moment-inside, near-web-moment-inside, near-lip-moment-inside) depth 20
 
-  pub z-inside : {hp hp′ : Pair} {x x′ : Kept} → Positive (L n x) → Inside m hp′ hp → KeptInside m x′ x → SignedInside m (z (m * n) hp′ x′) (z n hp x)
+  pub z-inside : {hp hp′ : Pair} {x x′ : EffectiveParts} → Positive (L n x) → Inside m hp′ hp → EffectivePartsInside m x′ x → SignedInside m (z (m * n) hp′ x′) (z n hp x)
   unfolding z
-  z-inside L⁺ hp x = search (nesting.inside, finer, moment-inside, L-inside) depth 20
+  z-inside L⁺ hp x = search (pair-inside, finer, moment-inside, L-inside) depth 20
 
   pub half-inside : {w w′ : Pair} → Inside m w′ w → Inside m (over (S (m * n)) w′ (whole (m * n) 2)) (over (S n) w (whole n 2))
   half-inside w = search inside depth 20
 
+  full-flange-inside : {cp cp′ bp bp′ : Pair} → Inside m cp′ cp → Inside m bp′ bp → EffectiveFlangeInside m (full-flange (m * n) cp′ bp′) (full-flange n cp bp)
+  full-flange-inside cp bp = record {
+    be1 = half-inside bp;
+    stiffener = record { be2 = half-inside bp; c = cp; a = search (inside, half-inside) depth 20 };
+    chi = constant-inside n⁺ m⁺ 1 1 (lit< tt) refl;
+  }
+
   pub full-inside : {hp hp′ cp cp′ bp₁ bp₁′ bp₂ bp₂′ : Pair} → Inside m hp′ hp → Inside m cp′ cp → Inside m bp₁′ bp₁ → Inside m bp₂′ bp₂
-      → KeptInside m (full (m * n) hp′ cp′ bp₁′ bp₂′) (full n hp cp bp₁ bp₂)
+      → EffectivePartsInside m (full (m * n) hp′ cp′ bp₁′ bp₂′) (full n hp cp bp₁ bp₂)
   unfolding full
   full-inside hp cp bp₁ bp₂ =
-      let one = constant-inside n⁺ m⁺ 1 1 (lit< tt) refl in
-      record {
-        first1 = half-inside bp₁;
-        first2 = half-inside bp₂;
-        p = half-inside hp;
-        m = half-inside hp;
-        one = record { be2 = half-inside bp₁; c = cp; a = search (inside, half-inside) depth 20 };
-        two = record { be2 = half-inside bp₂; c = cp; a = search (inside, half-inside) depth 20 };
-        chi1 = one;
-        chi2 = one;
-      }
+      record { one = full-flange-inside cp bp₁; two = full-flange-inside cp bp₂; p = half-inside hp; m = half-inside hp }

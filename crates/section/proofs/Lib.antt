@@ -9,11 +9,12 @@ pub mod SamePairs
 pub mod Coefficient
 pub mod PartsInside
 pub mod Formulas
+pub mod FlangeRounds
 pub mod Whole
 pub mod Promise
 pub mod ShareForms
 pub mod FactorForms
-pub mod KeptBoxes
+pub mod EffectiveBoxes
 pub mod SheetNumbers
 pub mod SizesOfWidths
 pub mod SizesOfStiffeners
@@ -28,3 +29,5 @@ pub mod PrintedFigures
 pub mod NothingCut
 pub mod NothingZero
 pub mod Theorems
+pub mod SheetValues
+pub mod Laws

@@ -10,10 +10,7 @@ use Rattle.pair.specs.Pairs.{_to_}
 use Rattle.pair.specs.Fits.{minusFits}
 use Rattle.pair.specs.Enclosure.{Inside, AtMost}
 use Rattle.pair.specs.declared.Pair.{Pair}
-use Rattle.pair.proofs.Fitting.{minus-out}
-use Rattle.pair.proofs.Laws.{ratio-ordered}
-use Rattle.pair.proofs.Ratios.{ratio-exact}
-use Rattle.pair.proofs.Bounds.{exact-at-most}
+use Rattle.pair.proofs.Laws.{minus-out, ratio-ordered, ratio-exact, exact-at-most}
 use Rattle.section.specs.declared.Sheet.{Sheet}
 use Rattle.section.specs.Sound.{Question2, Sound}
 use Rattle.section.specs.Working.{S, constant, units, mm}
@@ -53,8 +50,8 @@ fine-uncut {n} {q} f s =
       ρ-plane = λ u h. omega arith;
       ρ-lip = λ u h. omega arith;
       k = k-uncut n;
-      g₁ = λ i. fits-uncut _ _ (centre-room n f (section-numbers s .one) (sheet-rounds-box s f i .0) (bp₁-box s f) .less);
-      g₂ = λ i. fits-uncut _ _ (centre-room n f (section-numbers s .two) (sheet-rounds-box s f i .1) (bp₂-box s f) .less);
+      g₁ = λ i. fits-uncut _ _ (centre-room n f (section-numbers s .one) (sheet-rounds-box s f i .one .stiffener) (bp₁-box s f) .less);
+      g₂ = λ i. fits-uncut _ _ (centre-room n f (section-numbers s .two) (sheet-rounds-box s f i .two .stiffener) (bp₂-box s f) .less);
       χ = λ u h. omega arith;
       effective-web = fits-uncut _ _ (room .axis .moment-room .web .far .less);
       full-web = fits-uncut _ _ (room .gross .moment-room .web .far .less);
@@ -72,8 +69,8 @@ uncut-finer {n} {m} q n⁺ m⁺ d c =
       ρ-plane = λ u h. omega arith;
       ρ-lip = λ u h. omega arith;
       k = k-uncut (m * n);
-      g₁ = λ i. finer-uncut (mid-line-inside n⁺ m⁺ _ _) (taken-off-inside n⁺ m⁺ (d .each i .one .a) (sheet-rounds-inside n⁺ m⁺ q d i .one)) (c .g₁ i);
-      g₂ = λ i. finer-uncut (mid-line-inside n⁺ m⁺ _ _) (taken-off-inside n⁺ m⁺ (d .each i .two .a) (sheet-rounds-inside n⁺ m⁺ q d i .two)) (c .g₂ i);
+      g₁ = λ i. finer-uncut (mid-line-inside n⁺ m⁺ _ _) (taken-off-inside n⁺ m⁺ (d .each i .one .a) (sheet-rounds-inside n⁺ m⁺ q d i .one .stiffener)) (c .g₁ i);
+      g₂ = λ i. finer-uncut (mid-line-inside n⁺ m⁺ _ _) (taken-off-inside n⁺ m⁺ (d .each i .two .a) (sheet-rounds-inside n⁺ m⁺ q d i .two .stiffener)) (c .g₂ i);
       χ = λ u h. omega arith;
       effective-web = finer-uncut (mid-line-inside n⁺ m⁺ _ _) (half-inside n⁺ m⁺ (sheet-kept-inside n⁺ m⁺ q d .m)) (c .effective-web);
       full-web = finer-uncut (mid-line-inside n⁺ m⁺ _ _) (half-inside n⁺ m⁺ (sheet-full-inside n⁺ m⁺ q d .m)) (c .full-web);

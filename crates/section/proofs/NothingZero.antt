@@ -11,14 +11,14 @@ use Rattle.pair.proofs.Laws.{positive-inside, ratio-positive, times-inside, ove
 use Rattle.section.specs.declared.Stiffener.{Stiffener}
 use Rattle.section.specs.declared.Sheet.{Sheet}
 use Rattle.section.specs.Sound.{Sound}
-use Rattle.section.specs.Working.{S, whole, mm, mid-line, k}
-use Rattle.section.specs.Parts.{cp-of}
+use Rattle.section.specs.Working.{S, whole, mm, mid-line, k, cp-of}
 use Rattle.section.specs.Divisors.{AboveZero, StiffenerAboveZero, DivisorsAboveZero}
 use Rattle.section.proofs.PartsInside.{StiffenerInside}
 use Rattle.section.proofs.Ends.{scale-positive, own-fine, finer, constant-exact, constant-inside}
 use Rattle.section.proofs.Coefficient.{k-inside, k-positive}
 use Rattle.section.proofs.Formulas.{whole-times-positive, mid-line-inside, lip-line-inside, J-inside, L-inside}
-use Rattle.section.proofs.Whole.{StiffenerDivisors, SheetDivisors, sheet-rounds-inside, sheet-kept-inside, sheet-full-inside}
+use Rattle.section.proofs.FlangeRounds.{StiffenerDivisors}
+use Rattle.section.proofs.Whole.{SheetDivisors, sheet-rounds-inside, sheet-kept-inside, sheet-full-inside}
 use Rattle.section.proofs.SizesOfSheets.{fine-divisors}
 
 square-above : (v u : ℕ) → v < u → 0 < u * u
@@ -67,8 +67,8 @@ module _ {n m : ℕ} (n⁺ : 0 < n) (m⁺ : 0 < m) where
         k-lip₁ = lip-above q (q .b1) (d .flange1);
         k-lip₂ = lip-above q (q .b2) (d .flange2);
         ρ-lip = square-above _;
-        stiffener₁ = λ i. stiffener-above t-in (sheet-rounds-inside n⁺ m⁺ q d i .one) (d .each i .one);
-        stiffener₂ = λ i. stiffener-above t-in (sheet-rounds-inside n⁺ m⁺ q d i .two) (d .each i .two);
+        stiffener₁ = λ i. stiffener-above t-in (sheet-rounds-inside n⁺ m⁺ q d i .one .stiffener) (d .each i .one);
+        stiffener₂ = λ i. stiffener-above t-in (sheet-rounds-inside n⁺ m⁺ q d i .two .stiffener) (d .each i .two);
         twelve = whole-above 12 (lit< tt);
         two-hundred-and-ten = whole-above 210 (lit< tt);
         million = whole-above 1000000 (lit< tt);
@@ -79,4 +79,4 @@ module _ {n m : ℕ} (n⁺ : 0 < n) (m⁺ : 0 < m) where
       }
 
 pub nothing-zero : {n : ℕ} (q : Sheet) → 0 < n → Sound q → DivisorsAboveZero n q
-nothing-zero {n} q n⁺ s = rw (mul-one n) at (above-zero-finer {n = 1} (lit< tt) n⁺ q (omega (arith, s .q2 .gm0 .low)) (fine-divisors s own-fine))
+nothing-zero {n} q n⁺ s = rw (mul-one n) at (above-zero-finer {n = 1} (lit< tt) n⁺ q (omega (arith, s .q2 .gm0 .0)) (fine-divisors s own-fine))

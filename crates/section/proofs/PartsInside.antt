@@ -1,10 +1,15 @@
 -- The parts of a finer working inside those of a coarser one: each pair of a part lies inside the coarser pair.
-use Prim.Native.Nat.{ℕ}
+use Prim.Native.Nat.{ℕ, _*_}
 use Rattle.pair.specs.Enclosure.{Inside}
 use Rattle.section.specs.declared.Flange.{Flange}
+use Rattle.section.specs.declared.Common.{Common}
+use Rattle.section.specs.declared.Member.{Member}
 use Rattle.section.specs.declared.Stiffener.{Stiffener}
+use Rattle.section.specs.declared.RefinedFlange.{RefinedFlange}
 use Rattle.section.specs.declared.Round.{Round}
-use Rattle.section.specs.declared.Kept.{Kept}
+use Rattle.section.specs.declared.EffectiveFlange.{EffectiveFlange}
+use Rattle.section.specs.declared.EffectiveParts.{EffectiveParts}
+use Rattle.section.specs.Working.{core, strength}
 
 pub record FlangeInside (m : ℕ) (fine coarse : Flange) : Type 0 where
   pub bp : Inside m (fine .bp) (coarse .bp)
@@ -16,18 +21,33 @@ pub record StiffenerInside (m : ℕ) (fine coarse : Stiffener) : Type 0 where
   pub c : Inside m (fine .c) (coarse .c)
   pub a : Inside m (fine .a) (coarse .a)
 
-pub record RoundInside (m : ℕ) (fine coarse : Round) : Type 0 where
-  pub one : StiffenerInside m (fine .one) (coarse .one)
-  pub two : StiffenerInside m (fine .two) (coarse .two)
-  pub chi1 : Inside m (fine .chi1) (coarse .chi1)
-  pub chi2 : Inside m (fine .chi2) (coarse .chi2)
+pub record RefinedInside (m : ℕ) (fine coarse : RefinedFlange) : Type 0 where
+  pub stiffener : StiffenerInside m (fine .stiffener) (coarse .stiffener)
+  pub chi : Inside m (fine .chi) (coarse .chi)
 
-pub record KeptInside (mult : ℕ) (fine coarse : Kept) : Type 0 where
-  pub first1 : Inside mult (fine .first1) (coarse .first1)
-  pub first2 : Inside mult (fine .first2) (coarse .first2)
+pub record RoundInside (m : ℕ) (fine coarse : Round) : Type 0 where
+  pub one : RefinedInside m (fine .one) (coarse .one)
+  pub two : RefinedInside m (fine .two) (coarse .two)
+
+pub record EffectiveFlangeInside (m : ℕ) (fine coarse : EffectiveFlange) : Type 0 where
+  pub be1 : Inside m (fine .be1) (coarse .be1)
+  pub stiffener : StiffenerInside m (fine .stiffener) (coarse .stiffener)
+  pub chi : Inside m (fine .chi) (coarse .chi)
+
+pub record EffectivePartsInside (mult : ℕ) (fine coarse : EffectiveParts) : Type 0 where
+  pub one : EffectiveFlangeInside mult (fine .one) (coarse .one)
+  pub two : EffectiveFlangeInside mult (fine .two) (coarse .two)
   pub p : Inside mult (fine .p) (coarse .p)
   pub m : Inside mult (fine .m) (coarse .m)
-  pub one : StiffenerInside mult (fine .one) (coarse .one)
-  pub two : StiffenerInside mult (fine .two) (coarse .two)
-  pub chi1 : Inside mult (fine .chi1) (coarse .chi1)
-  pub chi2 : Inside mult (fine .chi2) (coarse .chi2)
+
+-- what both flanges have in common and a member, at m × n and at n
+pub record CommonInside (n m : ℕ) (fine coarse : Common) : Type 0 where
+  pub t : Inside m (core (m * n) fine) (core n coarse)
+  pub fyb : Inside m (strength (m * n) fine) (strength n coarse)
+  pub hp : Inside m (fine .hp) (coarse .hp)
+  pub cp : Inside m (fine .cp) (coarse .cp)
+
+pub record MemberInside (n m : ℕ) (fine coarse : Member) : Type 0 where
+  pub common : CommonInside n m (fine .common) (coarse .common)
+  pub one : FlangeInside m (fine .one) (coarse .one)
+  pub two : FlangeInside m (fine .two) (coarse .two)

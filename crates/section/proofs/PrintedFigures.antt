@@ -11,7 +11,7 @@ use lib.IntN.{ℤ, pos, natAbs, _*ℤ_}
 use Rattle.pair.specs.Forms.{plain}
 use Rattle.pair.specs.Enclosure.{Reaches}
 use Rattle.pair.specs.declared.Pair.{Pair}
-use Rattle.pair.proofs.SignedBounds.{Within, low-within, high-within, times-within, floor-within, ceil-within, signed-minus-reaches}
+use Rattle.pair.proofs.Laws.{Within, low-within, high-within, times-within, floor-within, ceil-within, signed-minus-reaches}
 use Rattle.section.specs.declared.Sheet.{Sheet}
 use Rattle.section.specs.Sound.{Sound}
 use Rattle.section.specs.Working.{S, worked}
@@ -96,7 +96,7 @@ module _ {n : ℕ} {q : Sheet} (f : Fine n) (s : Sound q) where
   unfolding worked
   factors-size =
       let box = sheet-effective-box s f in
-      (factor-size n _ (box .chi1 .mid) (box .chi1 .high), factor-size n _ (box .chi2 .mid) (box .chi2 .high))
+      (factor-size n _ (box .one .chi .mid) (box .one .chi .high), factor-size n _ (box .two .chi .mid) (box .two .chi .high))
 
   pub figures-below : FiguresBelow 10000000000 (figures n q)
   unfolding figures printed
@@ -106,7 +106,7 @@ module _ {n : ℕ} {q : Sheet} (f : Fine n) (s : Sound q) where
       record {
         area = lt-of-le-of-lt (printed-area f s refl) (lit< tt);
         axial =
-            lt-of-le-of-lt (axial-size n (q .fyb) (q .gm0) _ (s .q2 .fyb .high) (s .q2 .gm0 .low) (omega (arith, area-most f s))) (lit< tt);
+            lt-of-le-of-lt (axial-size n (q .fyb) (q .gm0) _ (s .q2 .fyb .1) (s .q2 .gm0 .0) (omega (arith, area-most f s))) (lit< tt);
         chi1 = lt-of-le-of-lt (factors-size .0) (lit< tt);
         chi2 = lt-of-le-of-lt (factors-size .1) (lit< tt);
         shiftlo = lt-of-le-of-lt (floor-within scale most (hundredfold (low-within shift-reaches)) .size) (lit< tt);

@@ -5,8 +5,8 @@ use native.Mathlib.Nat.{lt-of-le-of-lt, mul-pos, mul-le-mul, mul-le-mul-left, di
 use native.Mathlib.Omega.{arith}
 use Rattle.pair.specs.Rounding.{ceilDiv}
 use Rattle.pair.specs.Forms.{meaning}
-use Rattle.pair.proofs.Quotients.{ceil-le}
-use Rattle.pair.proofs.SignedForms.{pair-means}
+use Rattle.pair.proofs.Numbers.{ceil-le}
+use Rattle.pair.proofs.Laws.{pair-means}
 use Rattle.section.specs.declared.Sheet.{Sheet}
 use Rattle.section.specs.declared.Work.{Work}
 use Rattle.section.specs.Sound.{Sound}
@@ -44,7 +44,7 @@ factor-word n gm0 f l h =
 pub area-most : {n : ℕ} {q : Sheet} → Fine n → Sound q → ((worked n q) .area .lo ≤ (worked n q) .area .hi) × ((worked n q) .area .hi ≤ 6840000000 * n)
 unfolding worked
 area-most {n} {q} f s =
-    let box = area-box f (section-numbers s .web .high) (q .t .0) (s .q2 .t .high) (sheet-effective-box s f) in
+    let box = area-box f (section-numbers s .web .high) (q .t .0) (s .q2 .t .1) (sheet-effective-box s f) in
     (box .mid, box .high)
 
 -- the parts of the code's form

@@ -8,12 +8,11 @@ use Rattle.pair.specs.Integers.{_≤ℤ_, floorOver, ceilOver}
 use Rattle.pair.specs.SignedPairs.{SignedPair}
 use Rattle.pair.specs.Enclosure.{Between, SignedBetween}
 use Rattle.pair.specs.declared.Pair.{Pair}
-use Rattle.pair.proofs.IntegerLaws.{le-transℤ, scaled-le, scaled-swap}
-use Rattle.pair.proofs.IntegerRounding.{floor-scaled, ceil-scaled}
-use Rattle.pair.proofs.SignedLaws.{low-between, high-between, low-betweenℤ, high-betweenℤ}
+use Rattle.pair.proofs.Numbers.{le-transℤ, scaled-le, scaled-swap}
+use Rattle.pair.proofs.Laws.{floor-scaled, ceil-scaled, low-between, high-between, low-betweenℤ, high-betweenℤ}
 use Rattle.section.specs.declared.Sheet.{Sheet}
 use Rattle.section.specs.Working.{S, worked}
-use Rattle.section.specs.Figures.{printed, figures, Question11, Held}
+use Rattle.section.specs.Figures.{printed, figures, Question11, WithinPrinted}
 use Rattle.section.specs.Nested.{WorkedInside}
 use Rattle.section.proofs.Ends.{scale-positive}
 use Rattle.section.proofs.Whole.{SheetDivisors, worked-inside}
@@ -49,7 +48,7 @@ module _ {n m : ℕ} (n⁺ : 0 < n) (m⁺ : 0 < m) where
     shift-high : x *ℤ pos 100 ≤ℤ ceilOver (a .hi *ℤ pos 100) (S n) *ℤ pos (S (m * n))
     shift-high = rw fine-scale (le-transℤ (rw (scaled-swap (a .hi) 100 m) (scaled-le 100 (b .high))) (ceil-scaled (a .hi *ℤ pos 100) m (scale-positive n⁺)))
 
-  pub promise : (q : Sheet) → 0 < q .gm0 → Question11 n q → WorkedInside m (worked (m * n) q) (worked n q) → Held (m * n) (figures n q) (q .allow) (q .fyb) (q .gm0) (worked (m * n) q)
+  pub promise : (q : Sheet) → 0 < q .gm0 → Question11 n q → WorkedInside m (worked (m * n) q) (worked n q) → WithinPrinted (m * n) (figures n q) (q .allow) (q .fyb) (q .gm0) (worked (m * n) q)
   unfolding figures printed
   promise q gm0⁺ ok i =
       let lower = low-between (i .area) in
@@ -72,5 +71,5 @@ module _ {n m : ℕ} (n⁺ : 0 < n) (m⁺ : 0 < m) where
       }
 
   -- so where nothing that the working at n divides by may be zero
-  pub held : (q : Sheet) → 0 < q .gm0 → SheetDivisors n q → Question11 n q → Held (m * n) (figures n q) (q .allow) (q .fyb) (q .gm0) (worked (m * n) q)
+  pub held : (q : Sheet) → 0 < q .gm0 → SheetDivisors n q → Question11 n q → WithinPrinted (m * n) (figures n q) (q .allow) (q .fyb) (q .gm0) (worked (m * n) q)
   held q gm0⁺ d ok = promise q gm0⁺ ok (worked-inside n⁺ m⁺ q d)

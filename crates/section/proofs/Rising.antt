@@ -5,10 +5,8 @@ use native.Mathlib.Omega.{arith}
 use Rattle.pair.specs.Pairs.{plus, minus, times, cubeRoot}
 use Rattle.pair.specs.Enclosure.{Between, Ordered, AtLeast, AtMost}
 use Rattle.pair.specs.declared.Pair.{Pair}
-use Rattle.pair.proofs.Powers.{pow-three}
-use Rattle.pair.proofs.Laws.{ratio-ordered, plus-ordered, minus-ordered, times-ordered, cube-root-ordered}
-use Rattle.pair.proofs.ExactResults.{plus-between, minus-between, times-between, cube-root-between}
-use Rattle.pair.proofs.Bounds.{own-least, own-most, plus-at-least, plus-at-most, minus-at-least, minus-at-most, times-at-least, times-at-most, cube-root-at-least, cube-root-at-most}
+use Rattle.pair.proofs.Numbers.{pow-three}
+use Rattle.pair.proofs.Laws.{ratio-ordered, plus-ordered, minus-ordered, times-ordered, cube-root-ordered, plus-between, minus-between, times-between, cube-root-between, own-least, own-most, plus-at-least, plus-at-most, minus-at-least, minus-at-most, times-at-least, times-at-most, cube-root-at-least, cube-root-at-most}
 
 -- both ends of P are at least those of p
 pub record Rises (p P : Pair) : Type 0 where

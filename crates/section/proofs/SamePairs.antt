@@ -5,7 +5,7 @@ use Prim.Native.Nat.{ℕ}
 use native.Mathlib.Omega.{arith}
 use borrow.Author.Tests.{eqb-true, eq-eqb}
 use lib.Dec.{eqb}
-use Rattle.pair.proofs.Tests.{by-test, and-both}
+use Rattle.pair.proofs.Numbers.{by-test, and-both}
 use Rattle.pair.specs.declared.Pair.{Pair}
 
 -- a test has one outcome

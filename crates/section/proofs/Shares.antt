@@ -10,9 +10,9 @@ use Rattle.pair.specs.Rounding.{ceilDiv}
 use Rattle.pair.specs.Pairs.{_to_}
 use Rattle.pair.specs.Enclosure.{Inside, AtMost}
 use Rattle.pair.specs.declared.Pair.{Pair}
-use Rattle.pair.proofs.Quotients.{cross-down, cross-up, cross-mid, sub-mul, pos-left}
-use Rattle.pair.proofs.Bounds.{box-wider}
-use Rattle.section.specs.Working.{S, ρ, ρ-down, ρ-up, ρ-plane, ρ-lip}
+use Rattle.pair.proofs.Numbers.{cross-down, cross-up, cross-mid, sub-mul, pos-left}
+use Rattle.pair.proofs.Laws.{box-wider}
+use Rattle.section.specs.Working.{S, ρ, ρ-at, ρ-plane, ρ-lip}
 use Rattle.section.proofs.Ends.{units-finer, min-down, min-up}
 
 -- (u − c) ÷ u² falls from 2 c on: with v = 2 c + h and u = v + d, by multiplying out
@@ -53,8 +53,8 @@ module _ (limit less : ℕ) (limit⁺ : 0 < limit) (half : 2 * less ≤ limit) (
       let B⁺ : 0 < B = omega arith in
       cross-mid _ _ _ _ (mul-pos B⁺ B⁺) (mul-pos A⁺ A⁺) (omega (arith, mul-le-mul-right (s * s) (falls (less * m) A B (omega (arith, mul-le-mul-right m half)) k)))
 
-  down-low : (b B : ℕ) → B ≤ b * m → ρ-down n limit less b * m ≤ ρ-down (m * n) (limit * m) (less * m) B
-  unfolding ρ-down
+  down-low : (b B : ℕ) → B ≤ b * m → ρ-at n _/_ limit less b * m ≤ ρ-at (m * n) _/_ (limit * m) (less * m) B
+  unfolding ρ-at
   down-low b B k = by-outcome (leb b limit) (leb B (limit * m)) refl refl
     where
       by-outcome : (p q : Bool) → leb b limit ≡ p → leb B (limit * m) ≡ q
@@ -65,8 +65,8 @@ module _ (limit less : ℕ) (limit⁺ : 0 < limit) (half : 2 * less ≤ limit) (
       by-outcome false true e f = omega (arith, mul-le-mul-right m (min-le-left (S n) ((b - less) * (S n * S n) / (b * b))))
       by-outcome false false e f = rw (mul-assoc m n 1000000) (min-down (S n) _ _ m (past-down (S n) b B (leb-false B (limit * m) f) k))
 
-  up-high : (a A : ℕ) → a * m ≤ A → ρ-up (m * n) (limit * m) (less * m) A ≤ ρ-up n limit less a * m
-  unfolding ρ-up
+  up-high : (a A : ℕ) → a * m ≤ A → ρ-at (m * n) ceilDiv (limit * m) (less * m) A ≤ ρ-at n ceilDiv limit less a * m
+  unfolding ρ-at
   up-high a A k = by-outcome (leb a limit) (leb A (limit * m)) refl refl
     where
       by-outcome : (p q : Bool) → leb a limit ≡ p → leb A (limit * m) ≡ q
@@ -77,8 +77,8 @@ module _ (limit less : ℕ) (limit⁺ : 0 < limit) (half : 2 * less ≤ limit) (
       by-outcome false true e f = absurd (omega (arith, leb-true A (limit * m) f, mul-le-mul-right m (leb-false a limit e)))
       by-outcome false false e f = rw (mul-assoc m n 1000000) (min-up (S n) _ _ m (past-up (S n) a A (leb-false a limit e) k))
 
-  ends-mid : (A B : ℕ) → A ≤ B → ρ-down (m * n) (limit * m) (less * m) B ≤ ρ-up (m * n) (limit * m) (less * m) A
-  unfolding ρ-down ρ-up
+  ends-mid : (A B : ℕ) → A ≤ B → ρ-at (m * n) _/_ (limit * m) (less * m) B ≤ ρ-at (m * n) ceilDiv (limit * m) (less * m) A
+  unfolding ρ-at
   ends-mid A B k = by-outcome (leb A (limit * m)) (leb B (limit * m)) refl refl
     where
       by-outcome : (p q : Bool) → leb A (limit * m) ≡ p → leb B (limit * m) ≡ q
@@ -104,7 +104,7 @@ unfolding ρ-lip
 -- ρ is at most 1
 
 ρ-most : (n limit less : ℕ) (u : Pair) → AtMost (n * 1000000) (ρ n limit less u)
-unfolding ρ ρ-up
+unfolding ρ ρ-at
 ρ-most n limit less u = record { high = by-outcome (leb (u .lo) limit) }
   where
     by-outcome : (p : Bool) → cond p (S n) (min (S n) (ceilDiv ((u .lo - less) * (S n * S n)) (u .lo * u .lo))) ≤ S n
@@ -121,27 +121,27 @@ unfolding ρ-lip
 
 -- boxes, in millionths: ρ of a slenderness up to b is at least e, ρ at b
 
-plane-box : {n a b : ℕ} {U : Pair} (e : ℕ) → 0 < n → e ≤ ρ-down 1 673000 220000 b → Inside n U (a to b) → Inside n (ρ-plane n U) (e to 1000000)
+plane-box : {n a b : ℕ} {U : Pair} (e : ℕ) → 0 < n → e ≤ ρ-at 1 _/_ 673000 220000 b → Inside n U (a to b) → Inside n (ρ-plane n U) (e to 1000000)
 unfolding ρ-plane ρ
 plane-box {n} {a} {b} e n⁺ h i =
     box-wider e 1000000 (rw (mul-one n) at (ρ-plane-inside {n = 1} (lit< tt) n⁺ i)) (record { low = h }) (ρ-plane-most 1 (a to b))
 
-lip-box : {n a b : ℕ} {U : Pair} (e : ℕ) → 0 < n → e ≤ ρ-down 1 748000 188000 b → Inside n U (a to b) → Inside n (ρ-lip n U) (e to 1000000)
+lip-box : {n a b : ℕ} {U : Pair} (e : ℕ) → 0 < n → e ≤ ρ-at 1 _/_ 748000 188000 b → Inside n U (a to b) → Inside n (ρ-lip n U) (e to 1000000)
 unfolding ρ-lip ρ
 lip-box {n} {a} {b} e n⁺ h i =
     box-wider e 1000000 (rw (mul-one n) at (ρ-lip-inside {n = 1} (lit< tt) n⁺ i)) (record { low = h }) (ρ-lip-most 1 (a to b))
 
 -- flanges: ρ is at least 0.48 up to 1.8235
 pub ρ-flange-box : {n a : ℕ} {U : Pair} → 0 < n → Inside n U (a to 1823500) → Inside n (ρ-plane n U) (480000 to 1000000)
-unfolding ρ-down
+unfolding ρ-at
 ρ-flange-box n⁺ i = plane-box 480000 n⁺ (lit≤ tt) i
 
 -- web: at least 0.06 up to 15.2
 pub ρ-web-box : {n a : ℕ} {U : Pair} → 0 < n → Inside n U (a to 15200000) → Inside n (ρ-plane n U) (60000 to 1000000)
-unfolding ρ-down
+unfolding ρ-at
 ρ-web-box n⁺ i = plane-box 60000 n⁺ (lit≤ tt) i
 
 -- lips: at least 0.3 up to 3.0952
 pub ρ-lip-box : {n a : ℕ} {U : Pair} → 0 < n → Inside n U (a to 3095200) → Inside n (ρ-lip n U) (300000 to 1000000)
-unfolding ρ-down
+unfolding ρ-at
 ρ-lip-box n⁺ i = lip-box 300000 n⁺ (lit≤ tt) i

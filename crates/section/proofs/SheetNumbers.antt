@@ -4,7 +4,7 @@ use native.Mathlib.Omega.{arith}
 use lib.Dec.{lit<}
 use Rattle.pair.specs.Pairs.{_to_, over}
 use Rattle.pair.specs.Enclosure.{Inside}
-use Rattle.pair.proofs.Bounds.{minus-box, minus-fits}
+use Rattle.pair.proofs.Laws.{minus-box, minus-fits}
 use Rattle.section.specs.declared.Sheet.{Sheet}
 use Rattle.section.specs.Sound.{Sound}
 use Rattle.section.specs.Working.{S, mm, whole, mid-line, lip-line}

@@ -3,7 +3,7 @@ use Prim.Native.Nat.{ℕ}
 use Rattle.section.specs.declared.Sheet.{Sheet}
 use Rattle.section.specs.Sound.{Sound}
 use Rattle.section.specs.Parts.{Fine}
-use Rattle.section.specs.Room.{SheetRoom}
+use Rattle.section.specs.SectionRoom.{SheetRoom}
 use Rattle.section.proofs.SheetNumbers.{section-numbers, hp-room, bp₁-room, bp₂-room, cp-room}
 use Rattle.section.proofs.SizesOfSheets.{hp-box, cp-box, bp₁-box, bp₂-box, flange₁-room, flange₂-room, sheet-effective-room, sheet-effective-box, sheet-full-box}
 use Rattle.section.proofs.SizesOfAxis.{axis-room, shift-room, area-room, full-room}
@@ -23,6 +23,6 @@ sheet-room {n} {q} f s =
       axis = axis-room f depth (hp-box s f) (sheet-effective-box s f);
       full = full-room f (section-numbers s) (hp-box s f) (cp-box s f) (bp₁-box s f) (bp₂-box s f);
       gross = axis-room f depth (hp-box s f) (sheet-full-box s f);
-      area = area-room f depth (q .t .0) (s .q2 .t .high) (sheet-effective-box s f);
+      area = area-room f depth (q .t .0) (s .q2 .t .1) (sheet-effective-box s f);
       shift = shift-room f depth (hp-box s f) (sheet-effective-box s f) (sheet-full-box s f);
     }

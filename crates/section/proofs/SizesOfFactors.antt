@@ -4,25 +4,21 @@ use mathlib.Core.Path.{refl}
 use native.Mathlib.Nat.{mul-le-mul, mul-pos}
 use native.Mathlib.Omega.{arith}
 use lib.Dec.{lit<, lit≤}
-use Rattle.pair.specs.Pairs.{_to_, times, over, root}
+use Rattle.pair.specs.Pairs.{_to_, root}
 use Rattle.pair.specs.Enclosure.{Inside}
 use Rattle.pair.specs.declared.Pair.{Pair}
-use Rattle.pair.proofs.Bounds.{plus-box, times-box, over-box, root-box}
+use Rattle.pair.proofs.Laws.{plus-box, times-box, over-box, root-box}
 use Rattle.section.specs.Working.{S, constant, whole, D, ud}
-use Rattle.section.specs.Parts.{Fine}
+use Rattle.section.specs.Parts.{Fine, Operations, operations}
 use Rattle.section.specs.Room.{BendRoom, UdRoom}
 use Rattle.section.proofs.Ends.{scale}
 use Rattle.section.proofs.BoxRooms.{wider, constant-box, whole-box, plus-room, times-room, over-room, root-room, times-by, by-times, over-by}
 
 module _ (n : ℕ) where
+  open Operations (operations n) using (_⊗_, _⊘_)
+
   infixl 7 _⊗_
-  abbrev _⊗_ : Pair → Pair → Pair
-  p ⊗ q = times (S n) p q
-
   infixl 7 _⊘_
-  abbrev _⊘_ : Pair → Pair → Pair
-  p ⊘ q = over (S n) p q
-
   -- D, where g and the other flange's g, o, are at most 60 t, hp is at most 500 and kf at most 6
   module _ (f : Fine n) (t : ℕ) {hp kf g o : Pair} (thick : t ≤ 600) (hp-in : Inside n hp (0 to 500000000)) (kf-in : Inside n kf (0 to 6000000))
       (g-thin : Inside n g (0 to 600000 * t)) (g-wide : Inside n g (0 to 200000000)) (o-thin : Inside n o (0 to 600000 * t)) where

@@ -6,16 +6,13 @@ use Rattle.pair.specs.Pairs.{_to_, times, over}
 use Rattle.pair.specs.SignedPairs.{signed}
 use Rattle.pair.specs.Enclosure.{Inside, Positive, Reaches}
 use Rattle.pair.specs.declared.Pair.{Pair}
-use Rattle.pair.proofs.Laws.{fine-positive, inside-ordered}
-use Rattle.pair.proofs.Bounds.{plus-box, minus-box, times-box, minus-fits}
-use Rattle.pair.proofs.SignedLaws.{signed-ordered, difference-ordered}
-use Rattle.pair.proofs.SignedBounds.{signed-times-reaches, signed-times-fits}
-use Rattle.section.specs.declared.Kept.{Kept}
+use Rattle.pair.proofs.Laws.{fine-positive, inside-ordered, plus-box, minus-box, times-box, minus-fits, signed-ordered, difference-ordered, signed-times-reaches, signed-times-fits}
+use Rattle.section.specs.declared.EffectiveParts.{EffectiveParts}
 use Rattle.section.specs.Working.{_⊕_, _⊖_, _⊞_, S, whole, L, lip-moment, flange-moment, far-web-moment, near-web-moment, near-lip-moment, moment}
 use Rattle.section.specs.Parts.{Fine}
-use Rattle.section.specs.Room.{FixedRoom, LengthRoom, LipMomentRoom, FlangeMomentRoom, FarWebRoom, NearWebRoom, NearLipRoom, outer, OuterRoom, WebRoom, MomentRoom}
+use Rattle.section.specs.SectionRoom.{FixedRoom, LengthRoom, LipMomentRoom, FlangeMomentRoom, FarWebRoom, NearWebRoom, NearLipRoom, outer, OuterRoom, WebRoom, MomentRoom}
 use Rattle.section.proofs.Ends.{scale, word-at}
-use Rattle.section.proofs.KeptBoxes.{KeptBox, lip-square-box}
+use Rattle.section.proofs.EffectiveBoxes.{EffectiveBox, lip-square-box}
 use Rattle.section.proofs.BoxRooms.{wider, box-positive, plus-room, times-room, half-box, over-two, signed-reach, difference-reach, signed-plus-reach, signed-plus-room}
 
 module _ {n : ℕ} (f : Fine n) where
@@ -29,29 +26,29 @@ module _ {n : ℕ} (f : Fine n) where
 
   -- Length
 
-  module _ {d : ℕ} (most : d ≤ 49950) {x : Kept} (K : KeptBox n d x) where
+  module _ {d : ℕ} (most : d ≤ 49950) {x : EffectiveParts} (K : EffectiveBox n d x) where
     near-part-box : Inside n (x .p) (0 to 250000000)
     near-part-box = wider 0 250000000 (lit≤ tt) (omega arith) (K .p)
 
     far-part-box : Inside n (x .m) (0 to 250000000)
     far-part-box = wider 0 250000000 (lit≤ tt) (omega arith) (K .m)
 
-    flanges-box : Inside n (x .first1 ⊕ x .first2) (6720000 to 200000000)
-    flanges-box = plus-box (K .first1) (K .first2)
+    flanges-box : Inside n (x .one .be1 ⊕ x .two .be1) (6720000 to 200000000)
+    flanges-box = plus-box (K .one .be1) (K .two .be1)
 
-    near-box : Inside n (x .first1 ⊕ x .first2 ⊕ x .p) (6720000 to 450000000)
+    near-box : Inside n (x .one .be1 ⊕ x .two .be1 ⊕ x .p) (6720000 to 450000000)
     near-box = plus-box flanges-box near-part-box
 
-    far-box : Inside n (x .first1 ⊕ x .first2 ⊕ x .p ⊕ x .m) (6720000 to 700000000)
+    far-box : Inside n (x .one .be1 ⊕ x .two .be1 ⊕ x .p ⊕ x .m) (6720000 to 700000000)
     far-box = plus-box near-box far-part-box
 
-    one-box : Inside n (x .one .a ⊗ x .chi1) (0 to 220000000)
-    one-box = times-box 0 220000000 (scale f) (K .one .a) (K .chi1) (lit≤ tt) (lit≤ tt)
+    one-box : Inside n (x .one .stiffener .a ⊗ x .one .chi) (0 to 220000000)
+    one-box = times-box 0 220000000 (scale f) (K .one .stiffener .a) (K .one .chi) (lit≤ tt) (lit≤ tt)
 
-    two-box : Inside n (x .two .a ⊗ x .chi2) (0 to 220000000)
-    two-box = times-box 0 220000000 (scale f) (K .two .a) (K .chi2) (lit≤ tt) (lit≤ tt)
+    two-box : Inside n (x .two .stiffener .a ⊗ x .two .chi) (0 to 220000000)
+    two-box = times-box 0 220000000 (scale f) (K .two .stiffener .a) (K .two .chi) (lit≤ tt) (lit≤ tt)
 
-    first-box : Inside n (x .first1 ⊕ x .first2 ⊕ x .p ⊕ x .m ⊕ x .one .a ⊗ x .chi1) (6720000 to 920000000)
+    first-box : Inside n (x .one .be1 ⊕ x .two .be1 ⊕ x .p ⊕ x .m ⊕ x .one .stiffener .a ⊗ x .one .chi) (6720000 to 920000000)
     first-box = plus-box far-box one-box
 
     pub length-box : Inside n (L n x) (6720000 to 1140000000)
@@ -174,15 +171,15 @@ module _ {n : ℕ} (f : Fine n) where
 
   -- Their sum
 
-  module _ {d : ℕ} (most : d ≤ 49950) {hp : Pair} (H : Inside n hp (10000 * d to 10000 * d)) {x : Kept} (K : KeptBox n d x) where
+  module _ {d : ℕ} (most : d ≤ 49950) {hp : Pair} (H : Inside n hp (10000 * d to 10000 * d)) {x : EffectiveParts} (K : EffectiveBox n d x) where
     depth-box : Inside n hp (0 to 500000000)
     depth-box = wider 0 500000000 (omega arith) (omega arith) H
 
-    lip-reaches : Reaches (60000000000 * n) (lip-moment n hp (x .two .c) (x .chi2))
-    lip-reaches = lip-moment-reaches depth-box (K .two .c) (K .chi2)
+    lip-reaches : Reaches (60000000000 * n) (lip-moment n hp (x .two .stiffener .c) (x .two .chi))
+    lip-reaches = lip-moment-reaches depth-box (K .two .stiffener .c) (K .two .chi)
 
-    flange-reaches : Reaches (100000000000 * n) (signed (flange-moment n hp (x .first2) (x .two .be2) (x .chi2)))
-    flange-reaches = signed-reach f (flange-moment-box depth-box (K .first2) (K .two .be2) (K .chi2))
+    flange-reaches : Reaches (100000000000 * n) (signed (flange-moment n hp (x .two .be1) (x .two .stiffener .be2) (x .two .chi)))
+    flange-reaches = signed-reach f (flange-moment-box depth-box (K .two .be1) (K .two .stiffener .be2) (K .two .chi))
 
     far-reaches : Reaches (125000000000 * n) (signed (far-web-moment n hp (x .m)))
     far-reaches = signed-reach f (far-web-box d most H (K .m))
@@ -190,8 +187,8 @@ module _ {n : ℕ} (f : Fine n) where
     near-reaches : Reaches (31250000000 * n) (signed (near-web-moment n (x .p)))
     near-reaches = signed-reach f (near-web-box (near-part-box most K))
 
-    near-lip-reaches : Reaches (7200000000 * n) (signed (near-lip-moment n (x .one .c) (x .chi1)))
-    near-lip-reaches = signed-reach f (near-lip-box (K .one .c) (K .chi1))
+    near-lip-reaches : Reaches (7200000000 * n) (signed (near-lip-moment n (x .one .stiffener .c) (x .one .chi)))
+    near-lip-reaches = signed-reach f (near-lip-box (K .one .stiffener .c) (K .one .chi))
 
     outer-reaches : Reaches (160000000000 * n) (outer n hp x)
     outer-reaches = signed-plus-reach f 60000000000 100000000000 lip-reaches flange-reaches
@@ -208,8 +205,8 @@ module _ {n : ℕ} (f : Fine n) where
 
     pub outer-room : OuterRoom n hp x
     outer-room = record {
-      lip = lip-moment-room depth-box (K .two .c) (K .chi2);
-      flange = flange-moment-room depth-box (K .first2) (K .two .be2) (K .chi2);
+      lip = lip-moment-room depth-box (K .two .stiffener .c) (K .two .chi);
+      flange = flange-moment-room depth-box (K .two .be1) (K .two .stiffener .be2) (K .two .chi);
       sum = signed-plus-room f 60000000000 100000000000 lip-reaches flange-reaches (lit≤ tt);
     }
 
@@ -225,6 +222,6 @@ module _ {n : ℕ} (f : Fine n) where
     moment-room = record {
       outer-room = outer-room;
       web = web-room;
-      near = near-lip-room (K .one .c) (K .chi1);
+      near = near-lip-room (K .one .stiffener .c) (K .one .chi);
       sum = signed-plus-room f 316250000000 7200000000 second-reaches near-lip-reaches (lit≤ tt);
     }

@@ -1,123 +1,114 @@
--- Every round has room and its factors are at most 1, and the parts that are kept after any number of rounds lie in boxes.
-use Prim.Native.Nat.{ℕ, zero, suc, _*_, _<_}
-use mathlib.Core.Path.{_≡_}
-use mathlib.Core.Bool.{true}
+-- Every round has room and its factors are at most 1, and the parts that count after any number of rounds lie in boxes.
+use Prim.Native.Nat.{ℕ, zero, suc, _*_}
 use native.Mathlib.Omega.{arith}
-use lib.Dec.{lit≤}
 use Rattle.pair.specs.Pairs.{_to_}
-use Rattle.pair.specs.Fits.{overFits}
 use Rattle.pair.specs.Enclosure.{Inside}
 use Rattle.pair.specs.declared.Pair.{Pair}
-use Rattle.pair.proofs.Bounds.{over-box}
-use Rattle.section.specs.declared.Flange.{Flange}
+use Rattle.section.specs.declared.Member.{Member}
 use Rattle.section.specs.declared.Stiffener.{Stiffener}
-use Rattle.section.specs.Working.{S, mm, whole, stiffener-of, g, J, T, kf, D, ud, χ-of, factors, round, rounds, effective}
+use Rattle.section.specs.declared.RefinedFlange.{RefinedFlange}
+use Rattle.section.specs.declared.Round.{Round}
+use Rattle.section.specs.Working.{stiffener-of, kf, effective-flange, round, rounds, effective}
 use Rattle.section.specs.Parts.{Fine}
-use Rattle.section.specs.Room.{FactorRoom, FactorsRoom, Factor, Steady, EffectiveRoom}
-use Rattle.section.proofs.Factor.{χ-box}
-use Rattle.section.proofs.Ends.{scale}
-use Rattle.section.proofs.RoundForms.{one-factor, factors-most}
-use Rattle.section.proofs.KeptBoxes.{KeptBox}
-use Rattle.section.proofs.BoxRooms.{wider, factor-box, box-factor, box-slim, over-room}
+use Rattle.section.specs.Room.{FactorsRoom, Steady}
+use Rattle.section.specs.SectionRoom.{EffectiveRoom}
+use Rattle.section.proofs.EffectiveBoxes.{EffectiveFlangeBox, EffectiveBox}
+use Rattle.section.proofs.BoxRooms.{wider, factor-box, box-factor, one-box}
 use Rattle.section.proofs.SheetNumbers.{FlangeNumbers, SectionNumbers}
 use Rattle.section.proofs.SizesOfWidths.{FlangeBox, he-box, web-kept-room}
-use Rattle.section.proofs.SizesOfStiffeners.{StiffenerBox, stiffener-box, stiffener-room, centre-room, g-thin, g-wide, stiffener-range, J-box, inertia-room, T-box, stress-room}
-use Rattle.section.proofs.SizesOfFactors.{D-box, bend-room, ud-box, ud-room}
+use Rattle.section.proofs.SizesOfStiffeners.{StiffenerBox, stiffener-box, stiffener-room, centre-room, g-thin, stiffener-range}
+use Rattle.section.proofs.FlangeRounds.{RefinedBox, kf-box, kf-room, factor-room, refined-box}
+
+-- a member: depth d and widths β₁ and β₂ between mid-lines, in 0.01 mm, and lips of γ, in 0.005 mm
+pub record MemberBox (n d γ β₁ β₂ : ℕ) (x : Member) : Type 0 where
+  pub numbers : SectionNumbers (x .common .t .0) (x .common .fyb) d γ β₁ β₂
+  pub hp : Inside n (x .common .hp) (10000 * d to 10000 * d)
+  pub cp : Inside n (x .common .cp) (5000 * γ to 5000 * γ)
+  pub one : FlangeBox n β₁ (x .one)
+  pub two : FlangeBox n β₂ (x .two)
+
+pub record RoundBox (n γ β₁ β₂ : ℕ) (r : Round) : Type 0 where
+  pub one : RefinedBox n γ β₁ (r .one)
+  pub two : RefinedBox n γ β₂ (r .two)
 
 module _ {n : ℕ} (f : Fine n) where
-  -- one flange, of stiffener s, beside the other, of stiffener s′
-  module _ {t fyb γ β β′ : ℕ} (x : FlangeNumbers t fyb γ β) (x′ : FlangeNumbers t fyb γ β′) {s s′ : Stiffener} (b : StiffenerBox n γ β s) (b′ : StiffenerBox n γ β′ s′)
-      {hp kf bp bp′ : Pair} (hp-in : Inside n hp (0 to 500000000)) (kf-in : Inside n kf (0 to 6000000))
-      (bp-box : Inside n bp (10000 * β to 10000 * β)) (bp′-box : Inside n bp′ (10000 * β′ to 10000 * β′)) where
-    t⁺ : 0 < t
-    t⁺ = omega arith
+  effective-flange-box : {t fyb γ β : ℕ} {first last : RefinedFlange} → FlangeNumbers t fyb γ β → RefinedBox n γ β first → RefinedBox n γ β last
+      → EffectiveFlangeBox n (effective-flange first last)
+  effective-flange-box v first last =
+      record { be1 = stiffener-range n f v (first .stiffener) .be2; stiffener = stiffener-range n f v (last .stiffener); chi = last .chi }
 
-    D-in : Inside n (D n hp kf (g n bp s) (g n bp′ s′)) (0 to 792000000 * (t * t))
-    D-in = D-box n f t (x .thick) hp-in kf-in (g-thin n f x b bp-box) (g-wide n f x b bp-box) (g-thin n f x′ b′ bp′-box)
-
-    ud-in : Inside n (ud n (D n hp kf (g n bp s) (g n bp′ s′)) (J n (mm n t) s) (T n (mm n t) (whole n fyb) s)) (0 to 33500000)
-    ud-in = ud-box n f t t⁺ D-in (J-box n f x b) (T-box n f x b)
-
-    factor-room : FactorRoom n t fyb hp kf (g n bp s) (g n bp′ s′) s
-    factor-room = record {
-      bend = bend-room n f t (x .thick) hp-in kf-in (g-thin n f x b bp-box) (g-wide n f x b bp-box) (g-thin n f x′ b′ bp′-box);
-      inertia = inertia-room n f x b;
-      stress = stress-room n f x b;
-      slender = ud-room n f t t⁺ D-in (J-box n f x b) (T-box n f x b);
-      slim = box-slim f ud-in (lit≤ tt);
-    }
-
-    χ-most : Factor n (χ-of n (mm n t) (whole n fyb) hp kf (g n bp s) (g n bp′ s′) s)
-    unfolding χ-of
-    χ-most = box-factor f (χ-box (f .some) ud-in)
-
-  module _ {t fyb d γ β₁ β₂ : ℕ} (x : SectionNumbers t fyb d γ β₁ β₂) {hp cp : Pair} {f₁ f₂ : Flange} (hp-box : Inside n hp (10000 * d to 10000 * d)) (cp-box : Inside n cp (5000 * γ to 5000 * γ))
-      (b₁ : FlangeBox n β₁ f₁) (b₂ : FlangeBox n β₂ f₂) where
-    hp-in : Inside n hp (0 to 500000000)
-    hp-in = wider 0 500000000 (omega arith) (omega arith) hp-box
+  module _ {d γ β₁ β₂ : ℕ} (x : Member) (b : MemberBox n d γ β₁ β₂ x) where
+    hp-in : Inside n (x .common .hp) (0 to 500000000)
+    hp-in = wider 0 500000000 (omega (arith, b .numbers .web .high)) (omega (arith, b .numbers .web .high)) (b .hp)
 
     -- both flanges, from boxes of their stiffeners
     module _ {s₁ s₂ : Stiffener} (a₁ : StiffenerBox n γ β₁ s₁) (a₂ : StiffenerBox n γ β₂ s₂) where
       kf-in : Inside n (kf n s₁ s₂) (0 to 6000000)
-      unfolding kf
-      kf-in = over-box 0 6000000 (scale f) (omega arith) (omega arith) (a₂ .a) (a₁ .a) (omega arith) (omega arith)
+      kf-in = kf-box f (b .numbers .one) (b .numbers .near) a₁ a₂
 
-      kf-room : overFits (S n) (s₂ .a) (s₁ .a) ≡ true
-      unfolding kf
-      kf-room = over-room f (s₂ .a) (s₁ .a) (omega arith) (a₁ .a) kf-in (lit≤ tt)
+      factors-room : FactorsRoom n (x .common) (x .one .bp) (x .two .bp) s₁ s₂
+      factors-room =
+          let v₁ = b .numbers .one in
+          let v₂ = b .numbers .two in
+          record {
+            fine = f;
+            one-g = centre-room n f v₁ a₁ (b .one .bp);
+            two-g = centre-room n f v₂ a₂ (b .two .bp);
+            ratio = kf-room f v₁ (b .numbers .near) a₁ a₂;
+            one = factor-room f (x .common) v₁ hp-in kf-in (g-thin n f v₂ a₂ (b .two .bp)) (b .one .bp) a₁;
+            two = factor-room f (x .common) v₂ hp-in kf-in (g-thin n f v₁ a₁ (b .one .bp)) (b .two .bp) a₂;
+          }
 
-      factors-room : FactorsRoom n t fyb hp (f₁ .bp) (f₂ .bp) s₁ s₂
-      factors-room = record {
-        fine = f;
-        one-g = centre-room n f (x .one) a₁ (b₁ .bp);
-        two-g = centre-room n f (x .two) a₂ (b₂ .bp);
-        ratio = kf-room;
-        one = factor-room (x .one) (x .two) a₁ a₂ hp-in kf-in (b₁ .bp) (b₂ .bp);
-        two = factor-room (x .two) (x .one) a₂ a₁ hp-in kf-in (b₂ .bp) (b₁ .bp);
-      }
+    -- one round, from factors of at most 1
+    module _ {χ₁ χ₂ : Pair} (h₁ : Inside n χ₁ (0 to 1000000)) (h₂ : Inside n χ₂ (0 to 1000000)) where
+      stiffener₁ : StiffenerBox n γ β₁ (stiffener-of n (x .common .cp) (x .one) χ₁)
+      stiffener₁ = stiffener-box n f (b .numbers .one) (x .one) χ₁ (b .cp) (b .one) h₁
 
-    one-stiffener : {χ₁ : Pair} → Factor n χ₁ → StiffenerBox n γ β₁ (stiffener-of n cp f₁ χ₁)
-    one-stiffener h = stiffener-box n f (x .one) f₁ _ cp-box b₁ (factor-box f h)
+      stiffener₂ : StiffenerBox n γ β₂ (stiffener-of n (x .common .cp) (x .two) χ₂)
+      stiffener₂ = stiffener-box n f (b .numbers .two) (x .two) χ₂ (b .cp) (b .two) h₂
 
-    two-stiffener : {χ₂ : Pair} → Factor n χ₂ → StiffenerBox n γ β₂ (stiffener-of n cp f₂ χ₂)
-    two-stiffener h = stiffener-box n f (x .two) f₂ _ cp-box b₂ (factor-box f h)
+      round-box : RoundBox n γ β₁ β₂ (round n x χ₁ χ₂)
+      unfolding round
+      round-box =
+          let v₁ = b .numbers .one in
+          let v₂ = b .numbers .two in
+          let k = kf-in stiffener₁ stiffener₂ in
+          record {
+            one = refined-box f (x .common) v₁ hp-in k (g-thin n f v₂ stiffener₂ (b .two .bp)) (x .one) χ₁ (b .cp) (b .one) h₁;
+            two = refined-box f (x .common) v₂ hp-in k (g-thin n f v₁ stiffener₁ (b .one .bp)) (x .two) χ₂ (b .cp) (b .two) h₂;
+          }
 
-    pub steady : Steady n t fyb hp cp f₁ f₂
-    unfolding round factors
+    steady : Steady n x
     steady = record {
       fine = f;
       room = λ χ₁ χ₂ h k. record {
-        one = stiffener-room n f (x .one) f₁ χ₁ cp-box b₁ (factor-box f h);
-        two = stiffener-room n f (x .two) f₂ χ₂ cp-box b₂ (factor-box f k);
-        rest = factors-room (one-stiffener h) (two-stiffener k);
+        one = stiffener-room n f (b .numbers .one) (x .one) χ₁ (b .cp) (b .one) (factor-box f h);
+        two = stiffener-room n f (b .numbers .two) (x .two) χ₂ (b .cp) (b .two) (factor-box f k);
+        rest = factors-room (stiffener₁ (factor-box f h) (factor-box f k)) (stiffener₂ (factor-box f h) (factor-box f k));
       };
-      one = λ χ₁ χ₂ h k. let a₁ = one-stiffener h in let a₂ = two-stiffener k in χ-most (x .one) (x .two) a₁ a₂ hp-in (kf-in a₁ a₂) (b₁ .bp) (b₂ .bp);
-      two = λ χ₁ χ₂ h k. let a₁ = one-stiffener h in let a₂ = two-stiffener k in χ-most (x .two) (x .one) a₂ a₁ hp-in (kf-in a₁ a₂) (b₂ .bp) (b₁ .bp);
+      most = λ χ₁ χ₂ h k.
+          let r = round-box (factor-box f h) (factor-box f k) in
+          record { one = box-factor f (r .one .chi); two = box-factor f (r .two .chi) };
     }
 
-    pub effective-room : EffectiveRoom n t fyb hp cp f₁ f₂
-    effective-room = record { steady = steady; web = web-kept-room f (x .web) hp-box }
+    pub effective-room : EffectiveRoom n x
+    effective-room = record { steady = steady; web = web-kept-room f (x .common) (b .numbers .web) (b .hp) }
 
-    -- the stiffeners of every round
-    pub rounds-box : (i : ℕ) → StiffenerBox n γ β₁ ((rounds n (mm n t) (whole n fyb) hp cp f₁ f₂ i) .one) × StiffenerBox n γ β₂ ((rounds n (mm n t) (whole n fyb) hp cp f₁ f₂ i) .two)
-    unfolding rounds round factors
-    rounds-box zero = (one-stiffener (one-factor f), two-stiffener (one-factor f))
-    rounds-box (suc i) = let before = factors-most steady i in (one-stiffener (before .0), two-stiffener (before .1))
+    -- every round
+    pub rounds-box : (i : ℕ) → RoundBox n γ β₁ β₂ (rounds n x i)
+    unfolding rounds
+    rounds-box zero = round-box (one-box f) (one-box f)
+    rounds-box (suc i) = let before = rounds-box i in round-box (before .one .chi) (before .two .chi)
 
-    pub effective-box : (times : ℕ) → KeptBox n d (effective n (mm n t) (whole n fyb) hp cp f₁ f₂ times)
+    pub effective-box : (times : ℕ) → EffectiveBox n d (effective n x times)
     unfolding effective
     effective-box times =
         let first = rounds-box 0 in
         let last = rounds-box times in
-        let factors = factors-most steady times in
-        let he = he-box f (x .web) hp-box in
+        let he = he-box f (x .common) (b .numbers .web) (b .hp) in
         record {
-          first1 = stiffener-range n f (x .one) (first .0) .be2;
-          first2 = stiffener-range n f (x .two) (first .1) .be2;
+          one = effective-flange-box (b .numbers .one) (first .one) (last .one);
+          two = effective-flange-box (b .numbers .two) (first .two) (last .two);
           p = he;
           m = he;
-          one = stiffener-range n f (x .one) (last .0);
-          two = stiffener-range n f (x .two) (last .1);
-          chi1 = factor-box f (factors .0);
-          chi2 = factor-box f (factors .1);
         }

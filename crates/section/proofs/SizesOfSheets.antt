@@ -1,24 +1,23 @@
--- A sheet that meets the questions: its flanges, its web and all its rounds have room, the parts that are kept of it lie in boxes, and nothing that it divides by may be zero.
+-- A sheet that meets the questions: its flanges, its web and all its rounds have room, its effective parts lie in boxes, and nothing that it divides
+-- by may be zero.
 use Prim.Native.Nat.{ℕ, _-_, _*_, _<_}
-use native.Mathlib.Nat.{mul-pos}
 use native.Mathlib.Omega.{arith}
-use lib.Dec.{lit<}
 use Rattle.pair.specs.Pairs.{_to_}
 use Rattle.pair.specs.Enclosure.{Inside}
-use Rattle.section.specs.declared.Stiffener.{Stiffener}
 use Rattle.section.specs.declared.Sheet.{Sheet}
 use Rattle.section.specs.Sound.{Sound}
-use Rattle.section.specs.Working.{mm, whole, rounds}
-use Rattle.section.specs.Parts.{Fine, hp-of, cp-of, bp₁-of, bp₂-of, flange₁-of, flange₂-of, effective-of, full-of}
-use Rattle.section.specs.Room.{FlangeRoom, EffectiveRoom}
+use Rattle.section.specs.Working.{hp-of, cp-of, bp₁-of, bp₂-of, member-of}
+use Rattle.section.specs.Parts.{Fine, effective-of, full-of, round-of}
+use Rattle.section.specs.Room.{FlangeRoom}
+use Rattle.section.specs.SectionRoom.{EffectiveRoom}
 use Rattle.section.proofs.Ends.{own-fine}
-use Rattle.section.proofs.Whole.{StiffenerDivisors, SheetDivisors, sheet-divisors}
-use Rattle.section.proofs.KeptBoxes.{KeptBox}
+use Rattle.section.proofs.FlangeRounds.{box-divisors}
+use Rattle.section.proofs.Whole.{SheetDivisors, sheet-divisors}
+use Rattle.section.proofs.EffectiveBoxes.{EffectiveBox}
 use Rattle.section.proofs.BoxRooms.{box-positive, mm-box}
-use Rattle.section.proofs.SheetNumbers.{FlangeNumbers, mid-line-box, lip-line-box, section-numbers}
-use Rattle.section.proofs.SizesOfWidths.{FlangeBox, flange-room, flange-box}
-use Rattle.section.proofs.SizesOfStiffeners.{StiffenerBox, stiffener-range, J-box}
-use Rattle.section.proofs.SizesOfRounds.{effective-room, rounds-box, effective-box}
+use Rattle.section.proofs.SheetNumbers.{mid-line-box, lip-line-box, section-numbers}
+use Rattle.section.proofs.SizesOfWidths.{flange-room, flange-box}
+use Rattle.section.proofs.SizesOfRounds.{MemberBox, RoundBox, effective-room, rounds-box, effective-box}
 use Rattle.section.proofs.SizesOfMoments.{length-positive}
 use Rattle.section.proofs.SizesOfAxis.{full-box}
 
@@ -41,38 +40,37 @@ module _ {q : Sheet} (s : Sound q) {n : ℕ} (f : Fine n) where
   pub flange₂-room : FlangeRoom n (q .t .0) (q .fyb) (cp-of n q) (bp₂-of n q)
   flange₂-room = flange-room f (section-numbers s .two) cp-box bp₂-box
 
-  pub flange₁-box : FlangeBox n (q .b1 - q .tnom .0) (flange₁-of n q)
-  flange₁-box = flange-box f (section-numbers s .one) cp-box bp₁-box
+  pub member-box : MemberBox n (q .h - q .tnom .0) (2 * q .c - q .tnom .0) (q .b1 - q .tnom .0) (q .b2 - q .tnom .0) (member-of n q)
+  member-box = record {
+    numbers = section-numbers s;
+    hp = hp-box;
+    cp = cp-box;
+    one = flange-box f (section-numbers s .one) cp-box bp₁-box;
+    two = flange-box f (section-numbers s .two) cp-box bp₂-box;
+  }
 
-  pub flange₂-box : FlangeBox n (q .b2 - q .tnom .0) (flange₂-of n q)
-  flange₂-box = flange-box f (section-numbers s .two) cp-box bp₂-box
+  pub sheet-effective-room : EffectiveRoom n (member-of n q)
+  sheet-effective-room = effective-room f (member-of n q) member-box
 
-  pub sheet-effective-room : EffectiveRoom n (q .t .0) (q .fyb) (hp-of n q) (cp-of n q) (flange₁-of n q) (flange₂-of n q)
-  sheet-effective-room = effective-room f (section-numbers s) hp-box cp-box flange₁-box flange₂-box
+  pub sheet-effective-box : EffectiveBox n (q .h - q .tnom .0) (effective-of n q)
+  sheet-effective-box = effective-box f (member-of n q) member-box (q .rounds)
 
-  pub sheet-effective-box : KeptBox n (q .h - q .tnom .0) (effective-of n q)
-  sheet-effective-box = effective-box f (section-numbers s) hp-box cp-box flange₁-box flange₂-box (q .rounds)
-
-  pub sheet-full-box : KeptBox n (q .h - q .tnom .0) (full-of n q)
+  pub sheet-full-box : EffectiveBox n (q .h - q .tnom .0) (full-of n q)
   sheet-full-box = full-box f (section-numbers s) hp-box cp-box bp₁-box bp₂-box
 
-  -- the stiffeners of every round
-  pub sheet-rounds-box : (i : ℕ) →
-      let r = rounds n (mm n (q .t .0)) (whole n (q .fyb)) (hp-of n q) (cp-of n q) (flange₁-of n q) (flange₂-of n q) i in
-      StiffenerBox n (2 * q .c - q .tnom .0) (q .b1 - q .tnom .0) (r .one) × StiffenerBox n (2 * q .c - q .tnom .0) (q .b2 - q .tnom .0) (r .two)
-  sheet-rounds-box i = rounds-box f (section-numbers s) hp-box cp-box flange₁-box flange₂-box i
-
-  stiffener-divisors : {t fyb γ β : ℕ} {x : Stiffener} → FlangeNumbers t fyb γ β → StiffenerBox n γ β x → StiffenerDivisors n (mm n t) x
-  stiffener-divisors {t} k b =
-      let t⁺ : 0 < t = omega arith in
-      record { a = box-positive f (lit< tt) (stiffener-range n f k b .a); J = box-positive f (omega (arith, mul-pos t⁺ t⁺)) (J-box n f k b) }
+  -- every round
+  pub sheet-rounds-box : (i : ℕ) → RoundBox n (2 * q .c - q .tnom .0) (q .b1 - q .tnom .0) (q .b2 - q .tnom .0) (round-of n q i)
+  sheet-rounds-box i = rounds-box f (member-of n q) member-box i
 
   pub fine-divisors : SheetDivisors n q
   fine-divisors = record {
     core = box-positive f (omega arith) (mm-box f (q .t .0));
     flange1 = box-positive f (omega arith) bp₁-box;
     flange2 = box-positive f (omega arith) bp₂-box;
-    each = λ i. record { one = stiffener-divisors (section-numbers s .one) (sheet-rounds-box i .0); two = stiffener-divisors (section-numbers s .two) (sheet-rounds-box i .1) };
+    each = λ i. record {
+      one = box-divisors f (section-numbers s .one) (sheet-rounds-box i .one .stiffener);
+      two = box-divisors f (section-numbers s .two) (sheet-rounds-box i .two .stiffener);
+    };
     kept = length-positive f (section-numbers s .web .high) sheet-effective-box;
     gross = length-positive f (section-numbers s .web .high) sheet-full-box;
   }

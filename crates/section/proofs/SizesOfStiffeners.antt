@@ -4,18 +4,18 @@ use mathlib.Core.Path.{refl}
 use native.Mathlib.Nat.{mul-le-mul, mul-le-mul-right}
 use native.Mathlib.Omega.{arith}
 use lib.Dec.{lit<, lit≤}
-use Rattle.pair.specs.Pairs.{_to_, times, over, root}
+use Rattle.pair.specs.Pairs.{_to_, root}
 use Rattle.pair.specs.Enclosure.{Inside}
 use Rattle.pair.specs.declared.Pair.{Pair}
-use Rattle.pair.proofs.Bounds.{plus-box, minus-box, times-box, over-box, root-box, minus-fits}
+use Rattle.pair.proofs.Laws.{plus-box, minus-box, times-box, over-box, root-box, minus-fits}
 use Rattle.section.specs.declared.Flange.{Flange}
 use Rattle.section.specs.declared.Stiffener.{Stiffener}
 use Rattle.section.specs.Working.{S, mm, whole, ρ-plane, ρ-lip, half-kept, stiffener-of, g, J, T}
-use Rattle.section.specs.Parts.{Fine}
+use Rattle.section.specs.Parts.{Fine, Operations, operations}
 use Rattle.section.specs.Room.{StiffenerRoom, CentreRoom, InertiaRoom, StressRoom}
 use Rattle.section.proofs.Shares.{ρ-flange-box, ρ-lip-box}
 use Rattle.section.proofs.Ends.{scale}
-use Rattle.section.proofs.KeptBoxes.{StiffenerRange, lip-square-box}
+use Rattle.section.proofs.EffectiveBoxes.{StiffenerRange, lip-square-box}
 use Rattle.section.proofs.BoxRooms.{wider, box-slim, mm-box, whole-box, plus-room, times-room, over-room, root-room, times-by, by-times, over-by}
 use Rattle.section.proofs.SheetNumbers.{FlangeNumbers}
 use Rattle.section.proofs.SizesOfWidths.{FlangeBox, half-kept-box, half-kept-room}
@@ -26,14 +26,10 @@ pub record StiffenerBox (n γ β : ℕ) (s : Stiffener) : Type 0 where
   pub a : Inside n (s .a) ((2400 * β + 1500 * γ) to (5000 * β + 5000 * γ))
 
 module _ (n : ℕ) where
+  open Operations (operations n) using (_⊗_, _⊘_)
+
   infixl 7 _⊗_
-  abbrev _⊗_ : Pair → Pair → Pair
-  p ⊗ q = times (S n) p q
-
   infixl 7 _⊘_
-  abbrev _⊘_ : Pair → Pair → Pair
-  p ⊘ q = over (S n) p q
-
   -- be2, c_eff and a, where the factor χ of the round before is at most 1
   module _ {t fyb γ β : ℕ} (f : Fine n) (x : FlangeNumbers t fyb γ β) {cp : Pair} (l : Flange) (χ : Pair)
       (cp-box : Inside n cp (5000 * γ to 5000 * γ)) (b : FlangeBox n β l) (χ-in : Inside n χ (0 to 1000000)) where

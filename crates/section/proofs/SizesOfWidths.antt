@@ -7,11 +7,13 @@ use lib.Dec.{lit<, lit≤}
 use Rattle.pair.specs.Pairs.{_to_, times, over, root}
 use Rattle.pair.specs.Enclosure.{Inside}
 use Rattle.pair.specs.declared.Pair.{Pair}
-use Rattle.pair.proofs.Bounds.{times-box, over-box, root-box}
+use Rattle.pair.proofs.Laws.{times-box, over-box, root-box}
 use Rattle.section.specs.declared.Flange.{Flange}
-use Rattle.section.specs.Working.{S, constant, mm, whole, u², k, ρ-plane, half-kept, flange-of}
-use Rattle.section.specs.Parts.{Fine}
-use Rattle.section.specs.Room.{SlenderRoom, HalfRoom, FlangeRoom, WebKeptRoom}
+use Rattle.section.specs.declared.Common.{Common}
+use Rattle.section.specs.Working.{S, constant, mm, whole, core, strength, u², k, half-kept, web-kept, flange-of}
+use Rattle.section.specs.Parts.{Fine, Operations, operations}
+use Rattle.section.specs.Room.{SlenderRoom, HalfRoom, FlangeRoom}
+use Rattle.section.specs.SectionRoom.{WebKeptRoom}
 use Rattle.section.proofs.Shares.{ρ-web-box}
 use Rattle.section.proofs.Coefficient.{k-box}
 use Rattle.section.proofs.Ends.{scale}
@@ -37,14 +39,10 @@ record Plane (t fyb k₀ b r v e : ℕ) : Type 0 where
   pub most : e ≤ 231000000
 
 module _ {n t fyb k₀ a b r v e : ℕ} (f : Fine n) {k w : Pair} (z : Plane t fyb k₀ b r v e) (w-box : Inside n w (a to b)) (k-in : Inside n k (k₀ to 4000000)) where
+  open Operations (operations n) using (_⊗_, _⊘_)
+
   infixl 7 _⊗_
-  abbrev _⊗_ : Pair → Pair → Pair
-  p ⊗ q = times (S n) p q
-
   infixl 7 _⊘_
-  abbrev _⊘_ : Pair → Pair → Pair
-  p ⊘ q = over (S n) p q
-
   ratio-box : Inside n (w ⊘ mm n t) (0 to 1000000 * r)
   ratio-box = over-box 0 (1000000 * r) (scale f) (omega arith) (omega arith) w-box (mm-box f t) (omega arith) (omega arith)
 
@@ -116,20 +114,21 @@ module _ {n : ℕ} (f : Fine n) where
     flange-box = record { bp = bp-box; plane = u²-box f flange-plane bp-box (whole-box f 4); lip = u²-box f lip-plane cp-box k-wide }
 
   -- the web
-  module _ {t fyb d : ℕ} (x : WebNumbers t fyb d) {hp : Pair} (hp-box : Inside n hp (10000 * d to 10000 * d)) where
-    web-plane : Plane t fyb 4000000 (10000 * d) 500 924000000 231000000
+  module _ (x : Common) {d : ℕ} (v : WebNumbers (x .t .0) (x .fyb) d) (hp-box : Inside n (x .hp) (10000 * d to 10000 * d)) where
+    web-plane : Plane (x .t .0) (x .fyb) 4000000 (10000 * d) 500 924000000 231000000
     web-plane = omega arith
 
-    web-box : Inside n (u² n (mm n t) (whole n fyb) (whole n 4) hp) (0 to 231000000)
+    web-box : Inside n (u² n (core n x) (strength n x) (whole n 4) (x .hp)) (0 to 231000000)
     web-box = u²-box f web-plane hp-box (whole-box f 4)
 
-    u-box : Inside n (root (S n) (u² n (mm n t) (whole n fyb) (whole n 4) hp)) (0 to 15200000)
+    u-box : Inside n (root (S n) (u² n (core n x) (strength n x) (whole n 4) (x .hp))) (0 to 15200000)
     u-box = root-box 0 15200000 (scale f) web-box (lit≤ tt) (lit≤ tt)
 
-    pub he-box : Inside n (half-kept n (ρ-plane n (root (S n) (u² n (mm n t) (whole n fyb) (whole n 4) hp))) hp) (0 to 5000 * d)
+    pub he-box : Inside n (web-kept n x) (0 to 5000 * d)
+    unfolding web-kept
     he-box = wider 0 (5000 * d) (omega arith) (omega arith) (half-kept-box 300 d (ρ-web-box (f .some) u-box) hp-box)
 
-    pub web-kept-room : WebKeptRoom n t fyb hp
+    pub web-kept-room : WebKeptRoom n x
     web-kept-room = record {
       fine = f;
       slender = slender-room f web-plane hp-box (whole-box f 4);

@@ -2,14 +2,16 @@
 use Prim.Native.Nat.{ℕ, _*_, _<_}
 use native.Mathlib.Omega.{arith}
 use Rattle.section.specs.declared.Sheet.{Sheet}
+use Rattle.section.specs.Sheets.{fineness}
 use Rattle.section.specs.Sound.{Question2, Sound}
 use Rattle.section.specs.Working.{worked}
-use Rattle.section.specs.Figures.{figures, Question11, Held}
+use Rattle.section.specs.Figures.{figures, own-figures, Question11, WithinPrinted}
+use Rattle.section.specs.Parts.{Fine}
 use Rattle.section.specs.Nested.{WorkedInside}
 use Rattle.section.specs.Uncut.{Uncut, QuestionsUncut}
 use Rattle.section.specs.Divisors.{DivisorsAboveZero}
 use Rattle.section.specs.Constants.{ConstantsExact}
-use Rattle.section.proofs.Ends.{own-fine, every-constant-exact}
+use Rattle.section.proofs.Ends.{every-constant-exact}
 use Rattle.section.proofs.Whole.{worked-inside}
 use Rattle.section.proofs.Promise.{held}
 use Rattle.section.proofs.SizesOfSheets.{sound-divisors}
@@ -38,10 +40,15 @@ pub finer-working-inside : {n m : ℕ} (q : Sheet) → 0 < n → 0 < m → Sound
 finer-working-inside q n⁺ m⁺ s = worked-inside n⁺ m⁺ q (sound-divisors q n⁺ s)
 
 -- and both ends of its area, axial resistance and shift are held by what is printed at that scale, where the eleventh question is met
-pub finer-working-held : {n m : ℕ} (q : Sheet) → 0 < n → 0 < m → Sound q → Question11 n q → Held (m * n) (figures n q) (q .allow) (q .fyb) (q .gm0) (worked (m * n) q)
+pub finer-working-held : {n m : ℕ} (q : Sheet) → 0 < n → 0 < m → Sound q → Question11 n q → WithinPrinted (m * n) (figures n q) (q .allow) (q .fyb) (q .gm0) (worked (m * n) q)
 finer-working-held q n⁺ m⁺ s a =
-    held n⁺ m⁺ q (omega (arith, s .q2 .gm0 .low)) (sound-divisors q n⁺ s) a
+    held n⁺ m⁺ q (omega (arith, s .q2 .gm0 .0)) (sound-divisors q n⁺ s) a
+
+-- a sheet's own fineness is one that the code works at
+pub fineness-fine : (q : Sheet) → Question2 q → Fine (fineness q)
+unfolding fineness
+fineness-fine q h = record { some = omega arith; most = omega arith }
 
 -- no printed figure has more than ten digits
-pub figures-have-ten-digits : (q : Sheet) → Sound q → FiguresBelow 10000000000 (figures 1 q)
-figures-have-ten-digits q s = figures-below own-fine s
+pub figures-have-ten-digits : (q : Sheet) → Sound q → FiguresBelow 10000000000 (own-figures q)
+figures-have-ten-digits q s = figures-below (fineness-fine q (s .q2)) s

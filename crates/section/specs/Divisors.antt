@@ -7,8 +7,8 @@ use Rattle.pair.specs.Pairs.{times, over}
 use Rattle.pair.specs.declared.Pair.{Pair}
 use Rattle.section.specs.declared.Stiffener.{Stiffener}
 use Rattle.section.specs.declared.Sheet.{Sheet}
-use Rattle.section.specs.Working.{S, constant, whole, units, mm, k, J, L}
-use Rattle.section.specs.Parts.{cp-of, bp₁-of, bp₂-of, effective-of, full-of, round-of}
+use Rattle.section.specs.Working.{S, constant, whole, units, mm, k, J, L, cp-of, bp₁-of, bp₂-of}
+use Rattle.section.specs.Parts.{effective-of, full-of, round-of}
 
 -- both ends: the upper divides for the lower end of a quotient, the lower for the upper end
 pub record AboveZero (p : Pair) : Type 0 where
@@ -46,8 +46,8 @@ module _ (n : ℕ) where
     pub k-lip₂ : AboveZero (k n (over (S n) (cp-of n q) (bp₂-of n q)))
     pub ρ-lip : (u : ℕ) → units n 748 1000 < u → 0 < u * u
     -- g, J, kf and ud, in every round
-    pub stiffener₁ : (i : ℕ) → StiffenerAboveZero (mm n (q .t .0)) ((round-of n q i) .one)
-    pub stiffener₂ : (i : ℕ) → StiffenerAboveZero (mm n (q .t .0)) ((round-of n q i) .two)
+    pub stiffener₁ : (i : ℕ) → StiffenerAboveZero (mm n (q .t .0)) ((round-of n q i) .one .stiffener)
+    pub stiffener₂ : (i : ℕ) → StiffenerAboveZero (mm n (q .t .0)) ((round-of n q i) .two .stiffener)
     -- J = be2×t×t÷12 + c_eff×c_eff×c_eff÷12 + …
     pub twelve : AboveZero (whole n 12)
     -- T = fyb×a÷t÷210

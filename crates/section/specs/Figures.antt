@@ -5,6 +5,7 @@ use lib.IntN.{ℤ, pos, _*ℤ_}
 use Rattle.pair.specs.Integers.{_≤ℤ_, floorOver, ceilOver}
 use Rattle.section.specs.declared.Sheet.{Sheet}
 use Rattle.questions.specs.Claims.{Claim, _≤?_, Holds, test}
+use Rattle.section.specs.Sheets.{fineness}
 use Rattle.section.specs.Working.{S, Worked, worked}
 
 pub record Printed : Type 0 where
@@ -32,6 +33,10 @@ printed n fyb gm0 w =
 unfoldable pub figures : ℕ → Sheet → Printed
 figures n q = printed n (q .fyb) (q .gm0) (worked n q)
 
+-- the figures of a sheet, at its own fineness
+abbrev pub own-figures : Sheet → Printed
+own-figures q = figures (fineness q) q
+
 -- Is the area's upper end at most area + allow (in 0.01 mm²)?
 abbrev pub allowance : ℕ → Sheet → Claim
 allowance n q = (worked n q) .area .hi * 100 ≤? ((figures n q) .area + q .allow) * S n
@@ -43,9 +48,9 @@ pub record Question11 (n : ℕ) (q : Sheet) : Type 0 where
 unfoldable pub allowed : ℕ → Sheet → Bool
 allowed n q = test (allowance n q)
 
--- A working at fineness n holds what is printed: each end of its area, of its axial resistance (area × fyb ÷ gm0, exact) and of its shift,
+-- A working at fineness n is within what is printed: each end of its area, of its axial resistance (area × fyb ÷ gm0, exact) and of its shift,
 -- as it stands and not rounded for print. In 0.01 mm², newtons and 0.01 mm; both sides are multiplied by what would divide them.
-pub record Held (n : ℕ) (p : Printed) (allow fyb gm0 : ℕ) (w : Worked) : Type 0 where
+pub record WithinPrinted (n : ℕ) (p : Printed) (allow fyb gm0 : ℕ) (w : Worked) : Type 0 where
   -- at least area, and at most area + allow
   pub lower-area-low : p .area * S n ≤ w .area .lo * 100
   pub lower-area-high : w .area .lo * 100 ≤ (p .area + allow) * S n

@@ -3,14 +3,14 @@ use Prim.Native.Nat.{ℕ}
 use mathlib.Core.Path.{_≡_}
 use Rattle.pair.specs.Forms.{plain, plainPair}
 use Rattle.section.specs.declared.Sheet.{Sheet}
-use Rattle.section.specs.declared.Lines.{Lines}
+use Rattle.section.specs.declared.MidLines.{MidLines}
 use Rattle.section.specs.declared.Work.{Work}
 use Rattle.section.specs.declared.Figures.{Figures}
 use Rattle.section.specs.Working.{Worked, mid-line, lip-line}
 use Rattle.section.specs.Figures.{Printed}
 
 -- the mid-line lengths of a sheet
-pub record LinesAre (n : ℕ) (q : Sheet) (l : Lines) : Type 0 where
+pub record MidLinesAre (n : ℕ) (q : Sheet) (l : MidLines) : Type 0 where
   pub hp : l .hp ≡ mid-line n (q .h) (q .tnom .0)
   pub cp : l .cp ≡ lip-line n (q .c) (q .tnom .0)
   pub bp₁ : l .bp1 ≡ mid-line n (q .b1) (q .tnom .0)

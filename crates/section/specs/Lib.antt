@@ -6,6 +6,7 @@ pub mod Forms
 pub mod Nested
 pub mod Parts
 pub mod Room
+pub mod SectionRoom
 pub mod Uncut
 pub mod Divisors
 pub mod Constants

@@ -1,42 +1,48 @@
 -- Names for the parts of a sheet's working, and the scales that the code works at.
 use Prim.Native.Nat.{ℕ, _≤_, _<_}
+use Rattle.pair.specs.Pairs.{times, over}
 use Rattle.pair.specs.declared.Pair.{Pair}
-use Rattle.section.specs.declared.Flange.{Flange}
+use Rattle.section.specs.declared.Common.{Common}
+use Rattle.section.specs.declared.Stiffener.{Stiffener}
 use Rattle.section.specs.declared.Round.{Round}
-use Rattle.section.specs.declared.Kept.{Kept}
+use Rattle.section.specs.declared.EffectiveParts.{EffectiveParts}
 use Rattle.section.specs.declared.Sheet.{Sheet}
-use Rattle.section.specs.Working.{whole, mm, mid-line, lip-line, flange-of, rounds, full, effective}
+use Rattle.section.specs.Working.{S, core, strength, g, J, T, kf, D, ud⁴, χ-of, rounds, full, effective, hp-of, cp-of, bp₁-of, bp₂-of, member-of}
 
 -- our scale, or up to ten times it
 pub record Fine (n : ℕ) : Type 0 where
   pub some : 0 < n
   pub most : n ≤ 10
 
+-- × and ÷ at one scale
+pub record Operations : Type 0 where
+  pub _⊗_ : Pair → Pair → Pair
+  pub _⊘_ : Pair → Pair → Pair
+
+abbrev pub operations : ℕ → Operations
+operations n = record { _⊗_ = times (S n); _⊘_ = over (S n) }
+
 module _ (n : ℕ) where
-  abbrev pub hp-of : Sheet → Pair
-  hp-of q = mid-line n (q .h) (q .tnom .0)
+  -- the fourth power of one flange's ud, from its kf, its own g, the other's g and its stiffener
+  abbrev pub fourth-of : Common → Pair → Pair → Pair → Stiffener → Pair
+  fourth-of y kf g o s = ud⁴ n (D n (y .hp) kf g o) (J n (core n y) s) (T n (core n y) (strength n y) s)
 
-  abbrev pub cp-of : Sheet → Pair
-  cp-of q = lip-line n (q .c) (q .tnom .0)
+  -- a round, from both flanges' widths and their stiffeners in it: as the code works it
+  unfoldable pub factors : Common → Pair → Pair → Stiffener → Stiffener → Round
+  factors y bp₁ bp₂ s₁ s₂ =
+      let g₁ = g n bp₁ s₁ in
+      let g₂ = g n bp₂ s₂ in
+      record {
+        one = record { stiffener = s₁; chi = χ-of n y (kf n s₁ s₂) g₁ g₂ s₁ };
+        two = record { stiffener = s₂; chi = χ-of n y (kf n s₁ s₂) g₂ g₁ s₂ };
+      }
 
-  abbrev pub bp₁-of : Sheet → Pair
-  bp₁-of q = mid-line n (q .b1) (q .tnom .0)
+  abbrev pub effective-of : Sheet → EffectiveParts
+  effective-of q = effective n (member-of n q) (q .rounds)
 
-  abbrev pub bp₂-of : Sheet → Pair
-  bp₂-of q = mid-line n (q .b2) (q .tnom .0)
-
-  abbrev pub flange₁-of : Sheet → Flange
-  flange₁-of q = flange-of n (mm n (q .t .0)) (whole n (q .fyb)) (cp-of q) (bp₁-of q)
-
-  abbrev pub flange₂-of : Sheet → Flange
-  flange₂-of q = flange-of n (mm n (q .t .0)) (whole n (q .fyb)) (cp-of q) (bp₂-of q)
-
-  abbrev pub effective-of : Sheet → Kept
-  effective-of q = effective n (mm n (q .t .0)) (whole n (q .fyb)) (hp-of q) (cp-of q) (flange₁-of q) (flange₂-of q) (q .rounds)
-
-  abbrev pub full-of : Sheet → Kept
-  full-of q = full n (hp-of q) (cp-of q) (bp₁-of q) (bp₂-of q)
+  abbrev pub full-of : Sheet → EffectiveParts
+  full-of q = full n (hp-of n q) (cp-of n q) (bp₁-of n q) (bp₂-of n q)
 
   -- the round that the i-th refining gives, and the first working for 0
   abbrev pub round-of : Sheet → ℕ → Round
-  round-of q i = rounds n (mm n (q .t .0)) (whole n (q .fyb)) (hp-of q) (cp-of q) (flange₁-of q) (flange₂-of q) i
+  round-of q i = rounds n (member-of n q) i

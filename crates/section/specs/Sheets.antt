@@ -1,48 +1,71 @@
--- The ranges of a sheet's numbers, lengths in 0.01 mm, and the claims of the questions on them. (docs/WORKING.md, 14 and 15.)
+-- A sheet's numbers in the order of its lines, lengths in 0.01 mm, and the claims of the questions on them. (docs/WORKING.md, 14 and 15.)
 -- Each claim stands once, here with its numbers; crate certificate asks the claims in order, each with its refusal.
 use Prim.Native.Nat.{ℕ, _-_, _*_}
-use Rattle.section.specs.declared.Span.{Span}
-use Rattle.questions.specs.Claims.{Claim, _≤?_, _≡?_, _and_}
+use mathlib.Core.List.{List, [], _∷_}
+use lib.ListN.{getD}
+use Rattle.section.specs.declared.Sheet.{Sheet}
+use Rattle.questions.specs.Claims.{Claim, _≤?_, _≡?_, _and_, pairwise}
+
+-- how many numbers a sheet has: one for each of its lines
+abbrev pub sheetLines : ℕ
+sheetLines = 12
+
+-- the value of a line, counted from 1
+abbrev pub line : List ℕ → ℕ → ℕ
+line vs l = getD vs (l - 1) 0
+
+-- the sheet of its values in the order of the lines
+unfoldable pub sheetOf : List ℕ → Sheet
+sheetOf vs =
+    record {
+      form = line vs 1;
+      h = line vs 2;
+      b1 = line vs 3;
+      b2 = line vs 4;
+      c = line vs 5;
+      r = line vs 6;
+      tnom = record { 0 = line vs 7 };
+      t = record { 0 = line vs 8 };
+      fyb = line vs 9;
+      gm0 = line vs 10;
+      rounds = line vs 11;
+      allow = line vs 12;
+    }
+
+-- its values in the order of the lines
+unfoldable pub valuesOf : Sheet → List ℕ
+valuesOf q =
+    q .form ∷ q .h ∷ q .b1 ∷ q .b2 ∷ q .c ∷ q .r ∷ q .tnom .0 ∷ q .t .0 ∷ q .fyb ∷ q .gm0 ∷ q .rounds ∷ q .allow ∷ []
+
+-- the fineness of its working: the scale is so many times 1,000,000
+unfoldable pub fineness : Sheet → ℕ
+fineness q = 1
 
 -- from `least` to `most`, both included
 infix 80 _upto_
-abbrev pub _upto_ : ℕ → ℕ → Span
-least upto most = record { least = least; most = most }
+abbrev pub _upto_ : ℕ → ℕ → ℕ → Claim
+_upto_ least most v = least ≤? v and v ≤? most
 
--- a range for the value of each line
-pub record Ranges : Type 0 where
-  pub form : Span
-  pub h : Span
-  pub b1 : Span
-  pub b2 : Span
-  pub c : Span
-  pub r : Span
-  pub tnom : Span
-  pub t : Span
-  pub fyb : Span
-  pub gm0 : Span
-  pub rounds : Span
-  pub allow : Span
+-- Is every value in range? What each may be, in the order of the lines; form is 0 for C and 1 for Z.
+abbrev pub ranges : List (ℕ → Claim)
+ranges =
+    (0 upto 1)
+    ∷ (4000 upto 50000)
+    ∷ (2000 upto 20000)
+    ∷ (2000 upto 20000)
+    ∷ (500 upto 12000)
+    ∷ (0 upto 3000)
+    ∷ (50 upto 600)
+    ∷ (45 upto 600)
+    ∷ (200 upto 700)
+    ∷ (1000 upto 1500)
+    ∷ (0 upto 8)
+    ∷ (0 upto 1000)
+    ∷ []
 
--- Is every value in range? form is 0 for C and 1 for Z.
-abbrev pub span-of : Ranges
-span-of = record {
-  form = 0 upto 1;
-  h = 4000 upto 50000;
-  b1 = 2000 upto 20000;
-  b2 = 2000 upto 20000;
-  c = 500 upto 12000;
-  r = 0 upto 3000;
-  tnom = 50 upto 600;
-  t = 45 upto 600;
-  fyb = 200 upto 700;
-  gm0 = 1000 upto 1500;
-  rounds = 0 upto 8;
-  allow = 0 upto 1000;
-}
-
-abbrev pub inside : Span → ℕ → Claim
-inside s v = s .least ≤? v and v ≤? s .most
+-- the claim of each line: its value is in range
+unfoldable pub in-ranges : Sheet → List Claim
+in-ranges q = pairwise (λ range v. range v) ranges (valuesOf q)
 
 -- t ≤ tnom?
 abbrev pub core-within : ℕ → ℕ → Claim

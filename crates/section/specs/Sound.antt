@@ -1,29 +1,29 @@
 -- The questions on a sheet's numbers, 2 to 10, each as a record: what section's theorems and contracts ask.
 -- This need not be believed beside specs/Sheets: each record is what the claims of that question say, and crate certificate proves the two the same, both ways.
-use Prim.Native.Nat.{ℕ, _≤_}
+use Prim.Native.Nat.{ℕ, _-_}
 use mathlib.Core.Logic.{_⊎_}
+use lib.ListN.{getD}
 use Rattle.section.specs.declared.Sheet.{Sheet}
-use Rattle.section.specs.declared.Span.{Span}
-use Rattle.questions.specs.Claims.{Holds}
-use Rattle.section.specs.Sheets.{span-of, core-within, width, lip-length, depth, lip-long, lip-short, radius-core, radius-flange, mid-line-lip, form-z, lips-apart}
+use Rattle.questions.specs.Claims.{Claim, Holds}
+use Rattle.section.specs.Sheets.{_upto_, ranges, core-within, width, lip-length, depth, lip-long, lip-short, radius-core, radius-flange, mid-line-lip, form-z, lips-apart}
 
-pub record Within (s : Span) (v : ℕ) : Type 0 where
-  pub low : s .least ≤ v
-  pub high : v ≤ s .most
+-- the range of a line, counted from 1
+abbrev pub range-of : ℕ → ℕ → Claim
+range-of l = getD ranges (l - 1) (0 upto 0)
 
 pub record Question2 (q : Sheet) : Type 0 where
-  pub form : Within (span-of .form) (q .form)
-  pub h : Within (span-of .h) (q .h)
-  pub b1 : Within (span-of .b1) (q .b1)
-  pub b2 : Within (span-of .b2) (q .b2)
-  pub c : Within (span-of .c) (q .c)
-  pub r : Within (span-of .r) (q .r)
-  pub tnom : Within (span-of .tnom) (q .tnom .0)
-  pub t : Within (span-of .t) (q .t .0)
-  pub fyb : Within (span-of .fyb) (q .fyb)
-  pub gm0 : Within (span-of .gm0) (q .gm0)
-  pub rounds : Within (span-of .rounds) (q .rounds)
-  pub allow : Within (span-of .allow) (q .allow)
+  pub form : Holds (range-of 1 (q .form))
+  pub h : Holds (range-of 2 (q .h))
+  pub b1 : Holds (range-of 3 (q .b1))
+  pub b2 : Holds (range-of 4 (q .b2))
+  pub c : Holds (range-of 5 (q .c))
+  pub r : Holds (range-of 6 (q .r))
+  pub tnom : Holds (range-of 7 (q .tnom .0))
+  pub t : Holds (range-of 8 (q .t .0))
+  pub fyb : Holds (range-of 9 (q .fyb))
+  pub gm0 : Holds (range-of 10 (q .gm0))
+  pub rounds : Holds (range-of 11 (q .rounds))
+  pub allow : Holds (range-of 12 (q .allow))
 
 pub record Question3 (q : Sheet) : Type 0 where
   pub thin : Holds (core-within (q .t .0) (q .tnom .0))

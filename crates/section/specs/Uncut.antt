@@ -4,12 +4,12 @@
 -- (docs/WORKING.md, 4 to 12 and 15. hp − c2÷2 and the shift are signed.
 -- The d − 1 of `ceilDiv` is not cut, since no divisor is zero: specs/Divisors.antt.)
 use Prim.Native.Nat.{ℕ, _*_, _≤_, _<_}
-use Rattle.pair.specs.Pairs.{_to_, times, over}
+use Rattle.pair.specs.Pairs.{_to_}
 use Rattle.pair.specs.declared.Pair.{Pair}
 use Rattle.section.specs.declared.Stiffener.{Stiffener}
 use Rattle.section.specs.declared.Sheet.{Sheet}
-use Rattle.section.specs.Working.{S, constant, whole, units, mm}
-use Rattle.section.specs.Parts.{hp-of, bp₁-of, bp₂-of, effective-of, full-of, round-of}
+use Rattle.section.specs.Working.{S, constant, whole, units, mm, hp-of, bp₁-of, bp₂-of}
+use Rattle.section.specs.Parts.{effective-of, full-of, round-of, Operations, operations}
 
 -- no end of p − q is cut at zero
 pub record NotCut (p q : Pair) : Type 0 where
@@ -17,14 +17,10 @@ pub record NotCut (p q : Pair) : Type 0 where
   pub high : q .lo ≤ p .hi
 
 module _ (n : ℕ) where
+  open Operations (operations n) using (_⊗_, _⊘_)
+
   infixl 7 _⊗_
-  abbrev _⊗_ : Pair → Pair → Pair
-  p ⊗ q = times (S n) p q
-
   infixl 7 _⊘_
-  abbrev _⊘_ : Pair → Pair → Pair
-  p ⊘ q = over (S n) p q
-
   -- be2×be2÷(2×a)
   abbrev pub taken-off : Stiffener → Pair
   taken-off s = s .be2 ⊗ s .be2 ⊘ (whole n 2 ⊗ s .a)
@@ -41,8 +37,8 @@ module _ (n : ℕ) where
     -- k, at each end of cp÷bp: q − 0.35 past 0.35
     pub k : (x : ℕ) → units n 35 100 < x → NotCut (x to x) (constant n 35 100)
     -- g = bp − be2×be2÷(2×a) of each flange, in every round
-    pub g₁ : (i : ℕ) → NotCut (bp₁-of n q) (taken-off ((round-of n q i) .one))
-    pub g₂ : (i : ℕ) → NotCut (bp₂-of n q) (taken-off ((round-of n q i) .two))
+    pub g₁ : (i : ℕ) → NotCut (bp₁-of n q) (taken-off ((round-of n q i) .one .stiffener))
+    pub g₂ : (i : ℕ) → NotCut (bp₂-of n q) (taken-off ((round-of n q i) .two .stiffener))
     -- χ, at each end of ud below 1.38: 1.47 − 0.723 × ud, in thousandths
     pub χ : (u : ℕ) → u < units n 138 100 → 723 * u ≤ 1470 * S n
     -- hp − he÷2, of what counts and of the full section

@@ -9,10 +9,14 @@ use Rattle.pair.specs.Pairs.{_to_, ratio, plus, minus, times, over, root, cubeR
 use Rattle.pair.specs.SignedPairs.{SignedPair, signed, difference, signedPlus, signedMinus, signedTimes, signedOver}
 use Rattle.pair.specs.declared.Pair.{Pair}
 use Rattle.section.specs.declared.Flange.{Flange}
+use Rattle.section.specs.declared.Common.{Common}
+use Rattle.section.specs.declared.Member.{Member}
 use Rattle.section.specs.declared.Stiffener.{Stiffener}
+use Rattle.section.specs.declared.RefinedFlange.{RefinedFlange}
 use Rattle.section.specs.declared.Round.{Round}
 use Rattle.section.specs.declared.Sheet.{Sheet}
-use Rattle.section.specs.declared.Kept.{Kept}
+use Rattle.section.specs.declared.EffectiveFlange.{EffectiveFlange}
+use Rattle.section.specs.declared.EffectiveParts.{EffectiveParts}
 
 infixl 6 _⊕_
 abbrev pub _⊕_ : Pair → Pair → Pair
@@ -34,6 +38,10 @@ pub record Worked : Type 0 where
   pub z : SignedPair
   pub gross-z : SignedPair
   pub shift : SignedPair
+
+-- what counts of a flange, from the first working and the last: be1 is that of the first and stays
+abbrev pub effective-flange : RefinedFlange → RefinedFlange → EffectiveFlange
+effective-flange first last = record { be1 = first .stiffener .be2; stiffener = last .stiffener; chi = last .chi }
 
 module _ (n : ℕ) where
   abbrev pub S : ℕ
@@ -75,16 +83,13 @@ module _ (n : ℕ) where
   unfoldable pub u² : Pair → Pair → Pair → Pair → Pair
   u² t fyb k w = let r = w ⊘ t in r ⊗ r ⊗ fyb ⊘ constant 1895416 10 ⊘ k
 
-  -- ρ, the part of the width that counts, at one end: 1 up to a limit, else the smaller of 1 and (u − less)/u², rounded down or up (6, 7)
-  unfoldable pub ρ-down : ℕ → ℕ → ℕ → ℕ
-  ρ-down limit less u = cond (leb u limit) S (min S ((u - less) * (S * S) / (u * u)))
-
-  unfoldable pub ρ-up : ℕ → ℕ → ℕ → ℕ
-  ρ-up limit less u = cond (leb u limit) S (min S (ceilDiv ((u - less) * (S * S)) (u * u)))
+  -- ρ, the part of the width that counts, at one end: 1 up to a limit, else the smaller of 1 and (u − less)/u², the quotient rounded down or up (6, 7)
+  unfoldable pub ρ-at : (ℕ → ℕ → ℕ) → ℕ → ℕ → ℕ → ℕ
+  ρ-at quotient limit less u = cond (leb u limit) S (min S (quotient ((u - less) * (S * S)) (u * u)))
 
   -- at the ends: ρ falls, so its lower end comes from the upper end of u (3)
   unfoldable pub ρ : ℕ → ℕ → Pair → Pair
-  ρ limit less u = ρ-down limit less (u .hi) to ρ-up limit less (u .lo)
+  ρ limit less u = ρ-at _/_ limit less (u .hi) to ρ-at ceilDiv limit less (u .lo)
 
   -- web and flanges: ρ = 1 for u ≤ 0.673, else (u − 0.22)/u² (6)
   unfoldable pub ρ-plane : Pair → Pair
@@ -111,6 +116,13 @@ module _ (n : ℕ) where
   -- 0.5×ρ×w: be1 and be2 of a flange, he of the web (6)
   unfoldable pub half-kept : Pair → Pair → Pair
   half-kept r w = constant 1 2 ⊗ r ⊗ w
+
+  -- t and fyb, exact
+  abbrev pub core : Common → Pair
+  core y = mm (y .t .0)
+
+  abbrev pub strength : Common → Pair
+  strength y = whole (y .fyb)
 
   -- a flange of mid-line width bp with its lip cp: u² of each at full thickness
   unfoldable pub flange-of : Pair → Pair → Pair → Pair → Flange
@@ -152,56 +164,53 @@ module _ (n : ℕ) where
   unfoldable pub ud : Pair → Pair → Pair → Pair
   ud D J T = root S (root S (ud⁴ D J T))
 
-  -- χ, the thickness factor, at one end below 1.38: 1 for ud ≤ 0.65, else the smaller of 1 and 1.47 − 0.723 × ud (9)
-  unfoldable pub χ-before-down : ℕ → ℕ
-  χ-before-down u = cond (leb u (units 65 100)) S (min S ((1470 * S - 723 * u) / 1000))
-
-  unfoldable pub χ-before-up : ℕ → ℕ
-  χ-before-up u = cond (leb u (units 65 100)) S (min S (ceilDiv (1470 * S - 723 * u) 1000))
+  -- χ, the thickness factor, at one end below 1.38: 1 for ud ≤ 0.65, else the smaller of 1 and 1.47 − 0.723 × ud (9); the quotient rounded as in ρ
+  unfoldable pub χ-before : (ℕ → ℕ → ℕ) → ℕ → ℕ
+  χ-before quotient u = cond (leb u (units 65 100)) S (min S (quotient (1470 * S - 723 * u) 1000))
 
   -- from 1.38: 0.66/ud
-  unfoldable pub χ-from-down : ℕ → ℕ
-  χ-from-down u = 66 * (S * S) / (100 * u)
-
-  unfoldable pub χ-from-up : ℕ → ℕ
-  χ-from-up u = ceilDiv (66 * (S * S)) (100 * u)
+  unfoldable pub χ-from : (ℕ → ℕ → ℕ) → ℕ → ℕ
+  χ-from quotient u = quotient (66 * (S * S)) (100 * u)
 
   -- at the ends; the rule jumps up at 1.38, so a pair across it has the smaller of 0.47226 and the value at the upper end,
   -- and the larger of 0.66/1.38 and the value at the lower end
   unfoldable pub χ : Pair → Pair
   χ u =
-      cond (ltb (u .hi) (units 138 100)) (χ-before-down (u .hi) to χ-before-up (u .lo))
-      (cond (ltb (u .lo) (units 138 100)) (min (units 47226 100000) (χ-from-down (u .hi)) to max (ceilDiv (66 * S) 138) (χ-before-up (u .lo)))
-      (χ-from-down (u .hi) to χ-from-up (u .lo)))
+      cond (ltb (u .hi) (units 138 100)) (χ-before _/_ (u .hi) to χ-before ceilDiv (u .lo))
+      (cond (ltb (u .lo) (units 138 100)) (min (units 47226 100000) (χ-from _/_ (u .hi)) to max (ceilDiv (66 * S) 138) (χ-before ceilDiv (u .lo)))
+      (χ-from _/_ (u .hi) to χ-from ceilDiv (u .lo)))
 
   -- χ of one flange, from its kf, its own g, the other's g and its stiffener
-  unfoldable pub χ-of : Pair → Pair → Pair → Pair → Pair → Pair → Stiffener → Pair
-  χ-of t fyb hp kf g o s = χ (ud (D hp kf g o) (J t s) (T t fyb s))
+  unfoldable pub χ-of : Common → Pair → Pair → Pair → Stiffener → Pair
+  χ-of y kf g o s = χ (ud (D (y .hp) kf g o) (J (core y) s) (T (core y) (strength y) s))
 
-  -- both flanges' χ from their stiffeners; one kf serves both
-  unfoldable pub factors : Pair → Pair → Pair → Pair → Pair → Stiffener → Stiffener → Round
-  factors t fyb hp bp₁ bp₂ s₁ s₂ =
-      let g₁ = g bp₁ s₁ in
-      let g₂ = g bp₂ s₂ in
-      record { one = s₁; two = s₂; chi1 = χ-of t fyb hp (kf s₁ s₂) g₁ g₂ s₁; chi2 = χ-of t fyb hp (kf s₁ s₂) g₂ g₁ s₂ }
+  -- One flange's part of a round: its stiffener, from its χ of the round before, and its χ, from its kf and o, the other flange's g (8 to 10).
+  -- Flange 1 and flange 2 are this one definition.
+  unfoldable pub refined-flange : Common → Flange → Pair → Pair → Pair → RefinedFlange
+  refined-flange y f χ₀ kf o =
+      let s = stiffener-of (y .cp) f χ₀ in
+      record { stiffener = s; chi = χ-of y kf (g (f .bp) s) o s }
 
-  -- one round, from both flanges' χ of the round before (10)
-  unfoldable pub round : Pair → Pair → Pair → Pair → Flange → Flange → Pair → Pair → Round
-  unfolding factors
-  round t fyb hp cp f₁ f₂ χ₁ χ₂ = factors t fyb hp (f₁ .bp) (f₂ .bp) (stiffener-of cp f₁ χ₁) (stiffener-of cp f₂ χ₂)
+  -- one round, from both flanges' χ of the round before; one kf serves both (10)
+  unfoldable pub round : Member → Pair → Pair → Round
+  round x χ₁ χ₂ =
+      let s₁ = stiffener-of (x .common .cp) (x .one) χ₁ in
+      let s₂ = stiffener-of (x .common .cp) (x .two) χ₂ in
+      record {
+        one = refined-flange (x .common) (x .one) χ₁ (kf s₁ s₂) (g (x .two .bp) s₂);
+        two = refined-flange (x .common) (x .two) χ₂ (kf s₁ s₂) (g (x .one .bp) s₁);
+      }
 
   -- the first working, at χ = 1, and as many refining rounds as the sheet says
-  unfoldable pub rounds : Pair → Pair → Pair → Pair → Flange → Flange → ℕ → Round
-  rounds t fyb hp cp f₁ f₂ zero = round t fyb hp cp f₁ f₂ (whole 1) (whole 1)
-  rounds t fyb hp cp f₁ f₂ (suc i) =
-      let r = rounds t fyb hp cp f₁ f₂ i in
-      round t fyb hp cp f₁ f₂ (r .chi1) (r .chi2)
+  unfoldable pub rounds : Member → ℕ → Round
+  rounds x zero = round x (whole 1) (whole 1)
+  rounds x (suc i) = let r = rounds x i in round x (r .one .chi) (r .two .chi)
 
   -- Area, resistance, shift ---------------------------------------------------------------------------------------------
 
   -- L = be1 of flange 1 + be1 of flange 2 + the web's two kept parts, p at flange 1 and m at flange 2 + a1×χ1 + a2×χ2 (11)
-  unfoldable pub L : Kept → Pair
-  L x = x .first1 ⊕ x .first2 ⊕ x .p ⊕ x .m ⊕ x .one .a ⊗ x .chi1 ⊕ x .two .a ⊗ x .chi2
+  unfoldable pub L : EffectiveParts → Pair
+  L x = x .one .be1 ⊕ x .two .be1 ⊕ x .p ⊕ x .m ⊕ x .one .stiffener .a ⊗ x .one .chi ⊕ x .two .stiffener .a ⊗ x .two .chi
 
   -- c2×χ2×(hp − c2÷2), which lies below zero where the lip is longer than twice hp
   unfoldable pub lip-moment : Pair → Pair → Pair → SignedPair
@@ -224,62 +233,59 @@ module _ (n : ℕ) where
   near-lip-moment c₁ χ₁ = c₁ ⊗ c₁ ⊗ χ₁ ⊘ whole 2
 
   -- their sum, in this order
-  unfoldable pub moment : Pair → Kept → SignedPair
+  unfoldable pub moment : Pair → EffectiveParts → SignedPair
   moment hp x =
-      lip-moment hp (x .two .c) (x .chi2)
-      ⊞ flange-moment hp (x .first2) (x .two .be2) (x .chi2)
+      lip-moment hp (x .two .stiffener .c) (x .two .chi)
+      ⊞ flange-moment hp (x .two .be1) (x .two .stiffener .be2) (x .two .chi)
       ⊞ far-web-moment hp (x .m)
       ⊞ near-web-moment (x .p)
-      ⊞ near-lip-moment (x .one .c) (x .chi1)
+      ⊞ near-lip-moment (x .one .stiffener .c) (x .one .chi)
 
   -- z, the distance of the neutral axis from flange 1 (12, from the lip's moment on)
-  unfoldable pub z : Pair → Kept → SignedPair
+  unfoldable pub z : Pair → EffectiveParts → SignedPair
   z hp x = signedOver S (moment hp x) (L x)
 
-  -- all full: be1 = be2 = bp÷2, he = hp÷2, c_eff = cp, χ = 1
-  unfoldable pub full : Pair → Pair → Pair → Pair → Kept
-  full hp cp bp₁ bp₂ =
-      let he = hp ⊘ whole 2 in
-      let b₁ = bp₁ ⊘ whole 2 in
-      let b₂ = bp₂ ⊘ whole 2 in
-      record {
-        first1 = b₁;
-        first2 = b₂;
-        p = he;
-        m = he;
-        one = record { be2 = b₁; c = cp; a = b₁ ⊕ cp };
-        two = record { be2 = b₂; c = cp; a = b₂ ⊕ cp };
-        chi1 = whole 1;
-        chi2 = whole 1;
-      }
+  -- all full: be1 = be2 = bp÷2, c_eff = cp, χ = 1 of a flange; he = hp÷2
+  abbrev pub full-flange : Pair → Pair → EffectiveFlange
+  full-flange cp bp = let b = bp ⊘ whole 2 in record { be1 = b; stiffener = record { be2 = b; c = cp; a = b ⊕ cp }; chi = whole 1 }
 
-  -- what counts after the sheet's refining rounds; be1 is that of the first working and stays
-  unfoldable pub effective : Pair → Pair → Pair → Pair → Flange → Flange → ℕ → Kept
-  effective t fyb hp cp f₁ f₂ times =
-      let first = rounds t fyb hp cp f₁ f₂ 0 in
-      let last = rounds t fyb hp cp f₁ f₂ times in
-      let he = half-kept (ρ-plane (root S (u² t fyb (whole 4) hp))) hp in
-      record {
-        first1 = first .one .be2;
-        first2 = first .two .be2;
-        p = he;
-        m = he;
-        one = last .one;
-        two = last .two;
-        chi1 = last .chi1;
-        chi2 = last .chi2;
-      }
+  unfoldable pub full : Pair → Pair → Pair → Pair → EffectiveParts
+  full hp cp bp₁ bp₂ = let he = hp ⊘ whole 2 in record { one = full-flange cp bp₁; two = full-flange cp bp₂; p = he; m = he }
+
+  -- he = 0.5×ρ×hp of the web
+  unfoldable pub web-kept : Common → Pair
+  web-kept y = half-kept (ρ-plane (root S (u² (core y) (strength y) (whole 4) (y .hp)))) (y .hp)
+
+  -- what counts after the sheet's refining rounds
+  unfoldable pub effective : Member → ℕ → EffectiveParts
+  effective x times =
+      let first = rounds x 0 in
+      let last = rounds x times in
+      let he = web-kept (x .common) in
+      record { one = effective-flange (first .one) (last .one); two = effective-flange (first .two) (last .two); p = he; m = he }
+
+  -- the mid-line lengths of a sheet, and the member that it describes
+  abbrev pub hp-of : Sheet → Pair
+  hp-of q = mid-line (q .h) (q .tnom .0)
+
+  abbrev pub cp-of : Sheet → Pair
+  cp-of q = lip-line (q .c) (q .tnom .0)
+
+  abbrev pub bp₁-of : Sheet → Pair
+  bp₁-of q = mid-line (q .b1) (q .tnom .0)
+
+  abbrev pub bp₂-of : Sheet → Pair
+  bp₂-of q = mid-line (q .b2) (q .tnom .0)
+
+  abbrev pub member-of : Sheet → Member
+  member-of q =
+      let flange = flange-of (mm (q .t .0)) (whole (q .fyb)) (cp-of q) in
+      record { common = record { t = q .t; fyb = q .fyb; hp = hp-of q; cp = cp-of q }; one = flange (bp₁-of q); two = flange (bp₂-of q) }
 
   -- the working of a sheet: effective area = t×L, both χ, z, the gross z, and the shift = z − gross z
   unfoldable pub worked : Sheet → Worked
   worked q =
-      let t = mm (q .t .0) in
-      let fyb = whole (q .fyb) in
-      let hp = mid-line (q .h) (q .tnom .0) in
-      let cp = lip-line (q .c) (q .tnom .0) in
-      let bp₁ = mid-line (q .b1) (q .tnom .0) in
-      let bp₂ = mid-line (q .b2) (q .tnom .0) in
-      let e = effective t fyb hp cp (flange-of t fyb cp bp₁) (flange-of t fyb cp bp₂) (q .rounds) in
-      let y = z hp e in
-      let w = z hp (full hp cp bp₁ bp₂) in
-      record { area = t ⊗ L e; χ₁ = e .chi1; χ₂ = e .chi2; z = y; gross-z = w; shift = signedMinus y w }
+      let e = effective (member-of q) (q .rounds) in
+      let y = z (hp-of q) e in
+      let w = z (hp-of q) (full (hp-of q) (cp-of q) (bp₁-of q) (bp₂-of q)) in
+      record { area = mm (q .t .0) ⊗ L e; χ₁ = e .one .chi; χ₂ = e .two .chi; z = y; gross-z = w; shift = signedMinus y w }

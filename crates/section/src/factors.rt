@@ -6,12 +6,13 @@ use pair::TwoPairs;
 use pair::wide;
 ghost use mathlib.Core.Path.{_≡_};
 ghost use mathlib.Core.Bool.{true};
-ghost use Prim.Native.Nat.{_*_, _≤_, _<_, min, max};
+ghost use Prim.Native.Nat.{_*_, _/_, _≤_, _<_, min, max};
+ghost use Rattle.pair.specs.Rounding.{ceilDiv};
 ghost use Rattle.pair.specs.Pairs.{root};
 ghost use Rattle.pair.specs.Fits.{rootFits};
-ghost use Rattle.section.specs.Working.{S, ρ-down, ρ-up, ρ-plane, ρ-lip, χ-before-down, χ-before-up, χ-from-down, χ-from-up, χ};
+ghost use Rattle.section.specs.Working.{S, ρ, ρ-plane, ρ-lip, χ-before, χ-from, χ};
 ghost use Rattle.section.specs.Parts.{Fine};
-ghost use Rattle.section.specs.Room.{Share, Slim};
+ghost use Rattle.section.specs.Room.{Slim, Curve};
 
 fn smaller(a: u64, b: u64) -> u64
     ensures { λ r. ⌜ r ≡ min a b ⌝ }
@@ -25,53 +26,37 @@ fn larger(a: u64, b: u64) -> u64
     if a < b { b } else { a }
 }
 
-// (u - less) / u² rounded down: 1 up to the limit.
-fn share_down(n: u64, limit: u64, less: u64, u: u64) -> u64
-    requires { ⌜ Share n limit less u ⌝ }
-    ensures { λ r. ⌜ r ≡ ρ-down n limit less u ⌝ }
+// Up to which slenderness a web or flange counts in full, and what is taken off past it; the same of
+// a lip. In millionths.
+pub const PLANE_FULL: u64 = 673_000;
+
+pub const PLANE_LESS: u64 = 220_000;
+
+const LIP_FULL: u64 = 748_000;
+
+const LIP_LESS: u64 = 188_000;
+
+// The part of a width that counts: 1 up to a slenderness of full, else at most (u - less) / u².
+pub fn share(n: u64, full: u64, less: u64, u: Pair) -> Pair
+    requires { ⌜ Slim n u × Curve full less ⌝ }
+    ensures { λ r. ⌜ r ≡ ρ n (n * full) (n * less) u ⌝ }
 {
     let s = n * 1_000_000;
-    if u <= limit {
-        return s;
+    let limit = n * full;
+    let off = n * less;
+    let low = u.lo;
+    let high = u.hi;
+    if high <= limit {
+        return Pair { lo: s, hi: s };
     }
-    smaller(s, wide::floor_of((u - less) * s, s, u * u))
-}
-
-// The same rounded up.
-fn share_up(n: u64, limit: u64, less: u64, u: u64) -> u64
-    requires { ⌜ Share n limit less u ⌝ }
-    ensures { λ r. ⌜ r ≡ ρ-up n limit less u ⌝ }
-{
-    let s = n * 1_000_000;
-    if u <= limit {
-        return s;
+    let least = smaller(s, wide::floor_of((high - off) * s, s, high * high));
+    if low <= limit {
+        return Pair { lo: least, hi: s };
     }
-    smaller(s, wide::ceil_of((u - less) * s, s, u * u))
-}
-
-// The part of a web or flange that counts.
-pub fn plane_share(n: u64, u: Pair) -> Pair
-    requires { ⌜ Slim n u ⌝ }
-    ensures { λ r. ⌜ r ≡ ρ-plane n u ⌝ }
-{
-    let limit = n * 673_000;
-    let less = n * 220_000;
+    let most = smaller(s, wide::ceil_of((low - off) * s, s, low * low));
     Pair {
-        lo: share_down(n, limit, less, u.hi),
-        hi: share_up(n, limit, less, u.lo),
-    }
-}
-
-// The part of a lip that counts.
-pub fn lip_share(n: u64, u: Pair) -> Pair
-    requires { ⌜ Slim n u ⌝ }
-    ensures { λ r. ⌜ r ≡ ρ-lip n u ⌝ }
-{
-    let limit = n * 748_000;
-    let less = n * 188_000;
-    Pair {
-        lo: share_down(n, limit, less, u.hi),
-        hi: share_up(n, limit, less, u.lo),
+        lo: least,
+        hi: most,
     }
 }
 
@@ -90,15 +75,15 @@ pub fn shares(n: u64, plane: Pair, lip: Pair) -> TwoPairs
         };
     }
     let u = plane.roots(lip, s);
-    let one = plane_share(n, u.one);
-    let two = lip_share(n, u.two);
+    let one = share(n, PLANE_FULL, PLANE_LESS, u.one);
+    let two = share(n, LIP_FULL, LIP_LESS, u.two);
     TwoPairs { one, two }
 }
 
 // The thickness factor below 1.38: 1 up to 0.65, else at most 1.47 - 0.723 * u.
 fn before_down(n: u64, u: u64) -> u64
     requires { ⌜ Fine n × (u < 1380000 * n) ⌝ }
-    ensures { λ r. ⌜ r ≡ χ-before-down n u ⌝ }
+    ensures { λ r. ⌜ r ≡ χ-before n _/_ u ⌝ }
 {
     let s = n * 1_000_000;
     if u <= n * 650_000 {
@@ -109,7 +94,7 @@ fn before_down(n: u64, u: u64) -> u64
 
 fn before_up(n: u64, u: u64) -> u64
     requires { ⌜ Fine n × (u < 1380000 * n) ⌝ }
-    ensures { λ r. ⌜ r ≡ χ-before-up n u ⌝ }
+    ensures { λ r. ⌜ r ≡ χ-before n ceilDiv u ⌝ }
 {
     let s = n * 1_000_000;
     if u <= n * 650_000 {
@@ -121,7 +106,7 @@ fn before_up(n: u64, u: u64) -> u64
 // The thickness factor from 1.38: 0.66 / u.
 fn from_down(n: u64, u: u64) -> u64
     requires { ⌜ Fine n × (1380000 * n ≤ u) × (u ≤ 40000000 * n) ⌝ }
-    ensures { λ r. ⌜ r ≡ χ-from-down n u ⌝ }
+    ensures { λ r. ⌜ r ≡ χ-from n _/_ u ⌝ }
 {
     let s = n * 1_000_000;
     66 * (s * s) / (100 * u)
@@ -129,7 +114,7 @@ fn from_down(n: u64, u: u64) -> u64
 
 fn from_up(n: u64, u: u64) -> u64
     requires { ⌜ Fine n × (1380000 * n ≤ u) × (u ≤ 40000000 * n) ⌝ }
-    ensures { λ r. ⌜ r ≡ χ-from-up n u ⌝ }
+    ensures { λ r. ⌜ r ≡ χ-from n ceilDiv u ⌝ }
 {
     let s = n * 1_000_000;
     wide::ceil_of(66 * (s * s), 1, 100 * u)

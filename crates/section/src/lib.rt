@@ -4,6 +4,7 @@ pub mod factors;
 pub mod moments;
 pub mod rounds;
 pub mod sections;
+pub mod sheets;
 pub mod stiffeners;
 pub mod widths;
 
@@ -16,6 +17,9 @@ use pair::signed::Signed;
 pub struct Nominal(pub u64);
 
 pub struct Core(pub u64);
+
+// How many numbers a sheet has: one for each of its lines.
+pub const SHEET_LINES: usize = 12;
 
 // The numbers of a sheet, lengths in 0.01 mm.
 pub struct Sheet {
@@ -33,17 +37,27 @@ pub struct Sheet {
     pub allow: u64,
 }
 
-// The least and the most that a value of a sheet may be.
-pub struct Span {
-    pub least: u64,
-    pub most: u64,
-}
-
 // A flange with its lip: its mid-line width, and u² of flange and lip at full thickness.
 pub struct Flange {
     pub bp: Pair,
     pub plane: Pair,
     pub lip: Pair,
+}
+
+// What both flanges of a section have in common: the core thickness, the yield strength, and the
+// mid-line lengths of web and lips.
+pub struct Common {
+    pub t: Core,
+    pub fyb: u64,
+    pub hp: Pair,
+    pub cp: Pair,
+}
+
+// What every round of a section works with.
+pub struct Member {
+    pub common: Common,
+    pub one: Flange,
+    pub two: Flange,
 }
 
 // What counts of a flange at its stiffener: be2, c_eff, and a, their sum.
@@ -53,29 +67,36 @@ pub struct Stiffener {
     pub a: Pair,
 }
 
-// What a round gives: both flanges' stiffeners and thickness factors.
-pub struct Round {
-    pub one: Stiffener,
-    pub two: Stiffener,
-    pub chi1: Pair,
-    pub chi2: Pair,
+// One flange's part of a round: its stiffener and its thickness factor.
+pub struct RefinedFlange {
+    pub stiffener: Stiffener,
+    pub chi: Pair,
 }
 
-// What is kept of a section: be1 of each flange, the web's parts p at flange 1 and m at flange 2,
-// each flange's stiffener and its thickness factor.
-pub struct Kept {
-    pub first1: Pair,
-    pub first2: Pair,
+// What a round gives, of flange 1 and of flange 2.
+pub struct Round {
+    pub one: RefinedFlange,
+    pub two: RefinedFlange,
+}
+
+// What counts of a flange: be1, its stiffener and its thickness factor.
+pub struct EffectiveFlange {
+    pub be1: Pair,
+    pub stiffener: Stiffener,
+    pub chi: Pair,
+}
+
+// The effective parts of a section: those of both flanges, and the web's, p at flange 1 and m at
+// flange 2.
+pub struct EffectiveParts {
+    pub one: EffectiveFlange,
+    pub two: EffectiveFlange,
     pub p: Pair,
     pub m: Pair,
-    pub one: Stiffener,
-    pub two: Stiffener,
-    pub chi1: Pair,
-    pub chi2: Pair,
 }
 
 // The mid-line lengths of a sheet.
-pub struct Lines {
+pub struct MidLines {
     pub hp: Pair,
     pub cp: Pair,
     pub bp1: Pair,

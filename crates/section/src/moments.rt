@@ -1,6 +1,6 @@
 // Length and first moment of what is kept, and the neutral axis.
 // (docs/WORKING.md, 11 to 13.)
-use crate::Kept;
+use crate::EffectiveParts;
 use pair::Pair;
 use pair::signed::Signed;
 ghost use mathlib.Core.Path.{_≡_};
@@ -10,37 +10,35 @@ ghost use Rattle.pair.specs.Fits.{signedPlusFits};
 ghost use Rattle.pair.specs.SignedPairs.{signed};
 ghost use Rattle.pair.specs.Forms.{meaning, plainPair};
 ghost use Rattle.section.specs.Working.{_⊕_, _⊞_, L, lip-moment, flange-moment, far-web-moment, near-web-moment, near-lip-moment, moment, z};
-ghost use Rattle.section.specs.Room.{FixedRoom, LengthRoom, LipMomentRoom, FlangeMomentRoom, FarWebRoom, NearWebRoom, NearLipRoom, outer, OuterRoom, WebRoom, MomentRoom, AxisRoom};
+ghost use Rattle.section.specs.SectionRoom.{FixedRoom, LengthRoom, LipMomentRoom, FlangeMomentRoom, FarWebRoom, NearWebRoom, NearLipRoom, outer, OuterRoom, WebRoom, MomentRoom, AxisRoom};
 
 // be1 of both flanges and the web's parts.
-fn fixed_length(n: u64, x: Kept) -> Pair
+fn fixed_length(n: u64, x: EffectiveParts) -> Pair
     requires { ⌜ FixedRoom n x ⌝ }
-    ensures { λ r. ⌜ r ≡ x .first1 ⊕ x .first2 ⊕ x .p ⊕ x .m ⌝ }
+    ensures { λ r. ⌜ r ≡ x .one .be1 ⊕ x .two .be1 ⊕ x .p ⊕ x .m ⌝ }
 {
-    let first1 = x.first1;
-    let first2 = x.first2;
+    let one = x.one;
+    let two = x.two;
     let p = x.p;
     let m = x.m;
-    let flanges = first1.plus(first2);
+    let flanges = one.be1.plus(two.be1);
     let near = flanges.plus(p);
     near.plus(m)
 }
 
 // L, the length that counts.
-pub fn length(n: u64, x: Kept) -> Pair
+pub fn length(n: u64, x: EffectiveParts) -> Pair
     requires { ⌜ LengthRoom n x ⌝ }
     ensures { λ r. ⌜ r ≡ L n x ⌝ }
 {
     let one = x.one;
     let two = x.two;
-    let a1 = one.a;
-    let a2 = two.a;
-    let chi1 = x.chi1;
-    let chi2 = x.chi2;
+    let stiffener1 = one.stiffener;
+    let stiffener2 = two.stiffener;
     let s = n * 1_000_000;
     let fixed = fixed_length(n, x);
-    let part1 = a1.times(chi1, s);
-    let part2 = a2.times(chi2, s);
+    let part1 = stiffener1.a.times(one.chi, s);
+    let part2 = stiffener2.a.times(two.chi, s);
     let sum = fixed.plus(part1);
     sum.plus(part2)
 }
@@ -109,17 +107,15 @@ fn with_pair(a: Signed, p: Pair) -> Signed
 }
 
 // The moment of flange 2 and its lip.
-fn outer_moment(n: u64, hp: Pair, x: Kept) -> Signed
+fn outer_moment(n: u64, hp: Pair, x: EffectiveParts) -> Signed
     requires { ⌜ OuterRoom n hp x ⌝ }
     ensures { λ r. ⌜ r ≡ plainPair (outer n hp x) ⌝ }
 {
     let two = x.two;
-    let c = two.c;
-    let be2 = two.be2;
-    let be1 = x.first2;
-    let chi = x.chi2;
-    let lip = lip_moment(n, hp, c, chi);
-    let flange = flange_moment(n, hp, be1, be2, chi);
+    let stiffener = two.stiffener;
+    let chi = two.chi;
+    let lip = lip_moment(n, hp, stiffener.c, chi);
+    let flange = flange_moment(n, hp, two.be1, stiffener.be2, chi);
     with_pair(lip, flange)
 }
 
@@ -135,23 +131,20 @@ fn with_web(n: u64, hp: Pair, p: Pair, m: Pair, a: Signed) -> Signed
 }
 
 // The moment of all kept parts about flange 1.
-pub fn first_moment(n: u64, hp: Pair, x: Kept) -> Signed
+pub fn first_moment(n: u64, hp: Pair, x: EffectiveParts) -> Signed
     requires { ⌜ MomentRoom n hp x ⌝ }
     ensures { λ r. ⌜ r ≡ plainPair (moment n hp x) ⌝ }
 {
     let one = x.one;
-    let c = one.c;
-    let p = x.p;
-    let m = x.m;
-    let chi = x.chi1;
+    let stiffener = one.stiffener;
     let flange = outer_moment(n, hp, x);
-    let web = with_web(n, hp, p, m, flange);
-    let lip = near_lip_moment(n, c, chi);
+    let web = with_web(n, hp, x.p, x.m, flange);
+    let lip = near_lip_moment(n, stiffener.c, one.chi);
     with_pair(web, lip)
 }
 
 // z, the distance of the neutral axis from flange 1; l is L of the same kept parts.
-pub fn axis(n: u64, hp: Pair, x: Kept, l: Pair) -> Signed
+pub fn axis(n: u64, hp: Pair, x: EffectiveParts, l: Pair) -> Signed
     requires { ⌜ AxisRoom n hp x × (l ≡ L n x) ⌝ }
     ensures { λ r. ⌜ r ≡ plainPair (z n hp x) ⌝ }
 {

@@ -1,6 +1,9 @@
 // The stiffeners of both flanges, worked and refined. (docs/WORKING.md, 8 to 10.)
+use crate::Common;
 use crate::Core;
 use crate::Flange;
+use crate::Member;
+use crate::RefinedFlange;
 use crate::Round;
 use crate::Stiffener;
 use crate::coefficients;
@@ -12,7 +15,8 @@ ghost use mathlib.Core.Path.{_≡_};
 ghost use mathlib.Core.Bool.{true, _&&_};
 ghost use Prim.Native.Nat.{_*_};
 ghost use lib.Dec.{eqb};
-ghost use Rattle.section.specs.Working.{flange-of, stiffener-of, J, T, D, ud⁴, factors, round, rounds, mm, whole};
+ghost use Rattle.section.specs.Working.{flange-of, stiffener-of, round, rounds, mm, whole};
+ghost use Rattle.section.specs.Parts.{fourth-of, factors};
 ghost use Rattle.section.specs.Room.{FlangeRoom, StiffenerRoom, FactorRoom, FactorsRoom, RoundRoom, Steady};
 
 // Whether two pairs have the same ends.
@@ -55,23 +59,15 @@ pub fn flange_of(n: u64, t: Core, fyb: u64, cp: Pair, bp: Pair) -> Flange
     Flange { bp, plane, lip }
 }
 
-// The second flange, of mid-line width bp2, beside the first: the same where both are equally wide.
-pub fn second_flange(
-    n: u64,
-    t: Core,
-    fyb: u64,
-    cp: Pair,
-    bp1: Pair,
-    bp2: Pair,
-    f1: Flange,
-) -> Flange
-    requires { ⌜ FlangeRoom n (t .0) fyb cp bp2 × (f1 ≡ flange-of n (mm n (t .0)) (whole n fyb) cp bp1) ⌝ }
-    ensures { λ r. ⌜ r ≡ flange-of n (mm n (t .0)) (whole n fyb) cp bp2 ⌝ }
+// The second flange, of mid-line width bp, beside the first: the same where both are equally wide.
+pub fn second_flange(n: u64, t: Core, fyb: u64, cp: Pair, bp: Pair, first: Flange) -> Flange
+    requires { ⌜ FlangeRoom n (t .0) fyb cp bp × (first ≡ flange-of n (mm n (t .0)) (whole n fyb) cp (first .bp)) ⌝ }
+    ensures { λ r. ⌜ r ≡ flange-of n (mm n (t .0)) (whole n fyb) cp bp ⌝ }
 {
-    if same(bp1, bp2) {
-        return f1;
+    if same(first.bp, bp) {
+        return first;
     }
-    flange_of(n, t, fyb, cp, bp2)
+    flange_of(n, t, fyb, cp, bp)
 }
 
 // be2 = 0.5 * rho * bp and c_eff = rho * cp, u² of plane and lip multiplied by the factor of the
@@ -92,189 +88,145 @@ fn stiffener_of(n: u64, cp: Pair, f: Flange, before: Pair) -> Stiffener
 }
 
 // The fourth power of one flange's ud, g its own and o the other's.
-fn fourth_of(n: u64, t: Core, fyb: u64, hp: Pair, kf: Pair, g: Pair, o: Pair, s: Stiffener) -> Pair
-    requires { ⌜ FactorRoom n (t .0) fyb hp kf g o s ⌝ }
-    ensures { λ r. ⌜ r ≡ ud⁴ n (D n hp kf g o) (J n (mm n (t .0)) s) (T n (mm n (t .0)) (whole n fyb) s) ⌝ }
+fn fourth_of(n: u64, y: Common, kf: Pair, g: Pair, o: Pair, s: Stiffener) -> Pair
+    requires { ⌜ FactorRoom n y kf g o s ⌝ }
+    ensures { λ r. ⌜ r ≡ fourth-of n y kf g o s ⌝ }
 {
-    let d = stiffeners::flexibility(n, hp, kf, g, o);
+    let t = y.t;
+    let d = stiffeners::flexibility(n, y.hp, kf, g, o);
     let j = stiffeners::inertia(n, t, s);
-    let load = stiffeners::stress(n, t, fyb, s);
+    let load = stiffeners::stress(n, t, y.fyb, s);
     stiffeners::slenderness_fourth(n, d, j, load)
 }
 
-// Both flanges' factors, from their stiffeners; one kf serves both, and both roots are worked side
+// A round, from both flanges' widths and stiffeners; one kf serves both, and both roots are worked side
 // by side.
-fn unequal_factors(
-    n: u64,
-    t: Core,
-    fyb: u64,
-    hp: Pair,
-    bp1: Pair,
-    bp2: Pair,
-    one: Stiffener,
-    two: Stiffener,
-) -> Round
-    requires { ⌜ FactorsRoom n (t .0) fyb hp bp1 bp2 one two ⌝ }
-    ensures { λ r. ⌜ r ≡ factors n (mm n (t .0)) (whole n fyb) hp bp1 bp2 one two ⌝ }
+fn unequal_factors(n: u64, y: Common, bp1: Pair, bp2: Pair, one: Stiffener, two: Stiffener) -> Round
+    requires { ⌜ FactorsRoom n y bp1 bp2 one two ⌝ }
+    ensures { λ r. ⌜ r ≡ factors n y bp1 bp2 one two ⌝ }
 {
     let s = n * 1_000_000;
     let g1 = stiffeners::centre(n, bp1, one);
     let g2 = stiffeners::centre(n, bp2, two);
     let kf = two.a.over(one.a, s);
-    let fourth1 = fourth_of(n, t, fyb, hp, kf, g1, g2, one);
-    let fourth2 = fourth_of(n, t, fyb, hp, kf, g2, g1, two);
+    let fourth1 = fourth_of(n, y, kf, g1, g2, one);
+    let fourth2 = fourth_of(n, y, kf, g2, g1, two);
     let squares = fourth1.roots(fourth2, s);
     let u = squares.one.roots(squares.two, s);
     let chi1 = factors::factor(n, u.one);
     let chi2 = factors::factor(n, u.two);
+    let part1 = RefinedFlange {
+        stiffener: one,
+        chi: chi1,
+    };
+    let part2 = RefinedFlange {
+        stiffener: two,
+        chi: chi2,
+    };
     Round {
-        one,
-        two,
-        chi1,
-        chi2,
+        one: part1,
+        two: part2,
     }
 }
 
-// The factor of two equal flanges, worked once.
-fn equal_factors(n: u64, t: Core, fyb: u64, hp: Pair, bp: Pair, one: Stiffener) -> Round
-    requires { ⌜ FactorsRoom n (t .0) fyb hp bp bp one one ⌝ }
-    ensures { λ r. ⌜ r ≡ factors n (mm n (t .0)) (whole n fyb) hp bp bp one one ⌝ }
+// The round of two equally wide flanges with one stiffener, worked once.
+fn equal_factors(n: u64, y: Common, bp: Pair, one: Stiffener) -> Round
+    requires { ⌜ FactorsRoom n y bp bp one one ⌝ }
+    ensures { λ r. ⌜ r ≡ factors n y bp bp one one ⌝ }
 {
     let s = n * 1_000_000;
     let g = stiffeners::centre(n, bp, one);
     let kf = one.a.over(one.a, s);
-    let fourth = fourth_of(n, t, fyb, hp, kf, g, g, one);
+    let fourth = fourth_of(n, y, kf, g, g, one);
     let square = fourth.root(s);
     let u = square.root(s);
     let chi = factors::factor(n, u);
+    let part = RefinedFlange {
+        stiffener: one,
+        chi,
+    };
     Round {
-        one,
-        two: one,
-        chi1: chi,
-        chi2: chi,
+        one: part,
+        two: part,
     }
 }
 
-// Both flanges' factors, from their stiffeners.
-fn factors_of(
-    n: u64,
-    t: Core,
-    fyb: u64,
-    hp: Pair,
-    bp1: Pair,
-    bp2: Pair,
-    one: Stiffener,
-    two: Stiffener,
-) -> Round
-    requires { ⌜ FactorsRoom n (t .0) fyb hp bp1 bp2 one two ⌝ }
-    ensures { λ r. ⌜ r ≡ factors n (mm n (t .0)) (whole n fyb) hp bp1 bp2 one two ⌝ }
+// A round, from both flanges' widths and stiffeners.
+fn factors_of(n: u64, y: Common, bp1: Pair, bp2: Pair, one: Stiffener, two: Stiffener) -> Round
+    requires { ⌜ FactorsRoom n y bp1 bp2 one two ⌝ }
+    ensures { λ r. ⌜ r ≡ factors n y bp1 bp2 one two ⌝ }
 {
     if same(bp1, bp2) && same_stiffener(one, two) {
-        return equal_factors(n, t, fyb, hp, bp1, one);
+        return equal_factors(n, y, bp1, one);
     }
-    unequal_factors(n, t, fyb, hp, bp1, bp2, one, two)
+    unequal_factors(n, y, bp1, bp2, one, two)
 }
 
-// The second flange's stiffener beside the first's: the same for equal flanges with equal factors.
+// Whether two flanges are the same and so are their factors.
+fn equally_refined(f1: Flange, f2: Flange, chi1: Pair, chi2: Pair) -> bool
+    ensures { λ r. ⌜ (r ≡ true → (f1 ≡ f2) × (chi1 ≡ chi2)) × ((f1 ≡ f2) × (chi1 ≡ chi2) → r ≡ true) ⌝ }
+{
+    alike(f1, f2) && same(chi1, chi2)
+}
+
+// The second flange's stiffener beside the first's, which is the same where both are equally refined.
 fn second_stiffener(
     n: u64,
     cp: Pair,
-    f1: Flange,
-    f2: Flange,
-    chi1: Pair,
-    chi2: Pair,
+    f: Flange,
+    chi: Pair,
+    equal: bool,
     one: Stiffener,
 ) -> Stiffener
-    requires { ⌜ StiffenerRoom n cp f2 chi2 × (one ≡ stiffener-of n cp f1 chi1) ⌝ }
-    ensures { λ r. ⌜ r ≡ stiffener-of n cp f2 chi2 ⌝ }
+    requires { ⌜ StiffenerRoom n cp f chi × (equal ≡ true → one ≡ stiffener-of n cp f chi) ⌝ }
+    ensures { λ r. ⌜ r ≡ stiffener-of n cp f chi ⌝ }
 {
-    if alike(f1, f2) && same(chi1, chi2) {
+    if equal {
         return one;
     }
-    stiffener_of(n, cp, f2, chi2)
-}
-
-// One round, from both flanges' factors of the round before.
-fn one_round(
-    n: u64,
-    t: Core,
-    fyb: u64,
-    hp: Pair,
-    cp: Pair,
-    f1: Flange,
-    f2: Flange,
-    chi1: Pair,
-    chi2: Pair,
-) -> Round
-    requires { ⌜ RoundRoom n (t .0) fyb hp cp f1 f2 chi1 chi2 ⌝ }
-    ensures { λ r. ⌜ r ≡ round n (mm n (t .0)) (whole n fyb) hp cp f1 f2 chi1 chi2 ⌝ }
-{
-    let bp1 = f1.bp;
-    let bp2 = f2.bp;
-    let one = stiffener_of(n, cp, f1, chi1);
-    let two = second_stiffener(n, cp, f1, f2, chi1, chi2, one);
-    factors_of(n, t, fyb, hp, bp1, bp2, one, two)
+    stiffener_of(n, cp, f, chi)
 }
 
 // The round behind another. Where both stiffeners stay, it is the same round.
-fn next_round(
-    n: u64,
-    t: Core,
-    fyb: u64,
-    hp: Pair,
-    cp: Pair,
-    f1: Flange,
-    f2: Flange,
-    last: Round,
-) -> Round
-    requires { ⌜ RoundRoom n (t .0) fyb hp cp f1 f2 (last .chi1) (last .chi2) ⌝ }
-    requires { ⌜ last ≡ factors n (mm n (t .0)) (whole n fyb) hp (f1 .bp) (f2 .bp) (last .one) (last .two) ⌝ }
-    ensures { λ r. ⌜ r ≡ round n (mm n (t .0)) (whole n fyb) hp cp f1 f2 (last .chi1) (last .chi2) ⌝ }
+fn next_round(n: u64, x: Member, last: Round) -> Round
+    requires { ⌜ RoundRoom n x (last .one .chi) (last .two .chi) ⌝ }
+    requires { ⌜ last ≡ factors n (x .common) (x .one .bp) (x .two .bp) (last .one .stiffener) (last .two .stiffener) ⌝ }
+    ensures { λ r. ⌜ r ≡ round n x (last .one .chi) (last .two .chi) ⌝ }
 {
-    let bp1 = f1.bp;
-    let bp2 = f2.bp;
-    let chi1 = last.chi1;
-    let chi2 = last.chi2;
-    let one = stiffener_of(n, cp, f1, chi1);
-    let two = second_stiffener(n, cp, f1, f2, chi1, chi2, one);
-    if same_stiffener(one, last.one) && same_stiffener(two, last.two) {
+    let one = stiffener_of(n, x.common.cp, x.one, last.one.chi);
+    let equal = equally_refined(x.one, x.two, last.one.chi, last.two.chi);
+    let two = second_stiffener(n, x.common.cp, x.two, last.two.chi, equal, one);
+    if same_stiffener(one, last.one.stiffener) && same_stiffener(two, last.two.stiffener) {
         return last;
     }
-    factors_of(n, t, fyb, hp, bp1, bp2, one, two)
+    factors_of(n, x.common, x.one.bp, x.two.bp, one, two)
 }
 
 // The first working, with all factors 1.
-pub fn first_round(n: u64, t: Core, fyb: u64, hp: Pair, cp: Pair, f1: Flange, f2: Flange) -> Round
-    requires { ⌜ Steady n (t .0) fyb hp cp f1 f2 ⌝ }
-    ensures { λ r. ⌜ r ≡ rounds n (mm n (t .0)) (whole n fyb) hp cp f1 f2 0 ⌝ }
+pub fn first_round(n: u64, x: Member) -> Round
+    requires { ⌜ Steady n x ⌝ }
+    ensures { λ r. ⌜ r ≡ rounds n x 0 ⌝ }
 {
-    let one = Pair::ratio(1, 1, n * 1_000_000);
-    one_round(n, t, fyb, hp, cp, f1, f2, one, one)
+    let chi = Pair::ratio(1, 1, n * 1_000_000);
+    let one = stiffener_of(n, x.common.cp, x.one, chi);
+    let equal = alike(x.one, x.two);
+    let two = second_stiffener(n, x.common.cp, x.two, chi, equal, one);
+    factors_of(n, x.common, x.one.bp, x.two.bp, one, two)
 }
 
 // As many refining rounds as the sheet says, from the first working. A round that leaves both factors
 // as they were is the last: the next would be the same.
-pub fn refined(
-    n: u64,
-    t: Core,
-    fyb: u64,
-    hp: Pair,
-    cp: Pair,
-    f1: Flange,
-    f2: Flange,
-    first: Round,
-    times: u64,
-) -> Round
-    requires { ⌜ Steady n (t .0) fyb hp cp f1 f2 × (first ≡ rounds n (mm n (t .0)) (whole n fyb) hp cp f1 f2 0) ⌝ }
-    ensures { λ r. ⌜ r ≡ rounds n (mm n (t .0)) (whole n fyb) hp cp f1 f2 times ⌝ }
+pub fn refined(n: u64, x: Member, first: Round, times: u64) -> Round
+    requires { ⌜ Steady n x × (first ≡ rounds n x 0) ⌝ }
+    ensures { λ r. ⌜ r ≡ rounds n x times ⌝ }
 {
     let mut r = first;
     let mut i: u64 = 0;
     while i < times {
-        let chi1 = r.chi1;
-        let chi2 = r.chi2;
-        r = next_round(n, t, fyb, hp, cp, f1, f2, r);
-        if same(r.chi1, chi1) && same(r.chi2, chi2) {
+        let chi1 = r.one.chi;
+        let chi2 = r.two.chi;
+        r = next_round(n, x, r);
+        if same(r.one.chi, chi1) && same(r.two.chi, chi2) {
             return r;
         }
         i += 1;

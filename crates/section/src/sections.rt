@@ -1,10 +1,12 @@
 // The working of a whole section, and the figures that are printed.
 // (docs/WORKING.md, 11 to 13.)
-use crate::Core;
+use crate::Common;
+use crate::EffectiveFlange;
+use crate::EffectiveParts;
 use crate::Figures;
-use crate::Flange;
-use crate::Kept;
-use crate::Lines;
+use crate::Member;
+use crate::MidLines;
+use crate::RefinedFlange;
 use crate::Sheet;
 use crate::Stiffener;
 use crate::Work;
@@ -19,128 +21,131 @@ use pair::wide;
 ghost use mathlib.Core.Path.{_≡_};
 ghost use Prim.Native.Nat.{_*_, _/_, _≤_};
 ghost use lib.IntN.{pos, _*ℤ_};
-ghost use Rattle.pair.specs.Pairs.{root};
 ghost use Rattle.pair.specs.Integers.{floorOver, ceilOver};
 ghost use Rattle.pair.specs.Forms.{plain, meaning};
 ghost use Rattle.section.specs.Sound.{Sound};
-ghost use Rattle.section.specs.Working.{S, mm, whole, u², ρ-plane, half-kept, effective, full, worked};
+ghost use Rattle.section.specs.Working.{S, web-kept, effective-flange, effective, full-flange, full, hp-of, worked};
 ghost use Rattle.section.specs.Figures.{figures, allowed};
-ghost use Rattle.section.specs.Forms.{LinesAre, workOf, figuresOf};
-ghost use Rattle.section.specs.Parts.{Fine, hp-of, effective-of, full-of};
-ghost use Rattle.section.specs.Room.{WebKeptRoom, EffectiveRoom, FullRoom, SheetRoom};
+ghost use Rattle.section.specs.Forms.{MidLinesAre, workOf, figuresOf};
+ghost use Rattle.section.specs.Parts.{Fine, effective-of, full-of};
+ghost use Rattle.section.specs.SectionRoom.{WebKeptRoom, EffectiveRoom, FullFlangeRoom, FullRoom, SheetRoom};
 
 // he = 0.5 * rho * hp of the web.
-fn web_kept(n: u64, t: Core, fyb: u64, hp: Pair) -> Pair
-    requires { ⌜ WebKeptRoom n (t .0) fyb hp ⌝ }
-    ensures { λ r. ⌜ r ≡ half-kept n (ρ-plane n (root (S n) (u² n (mm n (t .0)) (whole n fyb) (whole n 4) hp))) hp ⌝ }
+fn web_kept(n: u64, y: Common) -> Pair
+    requires { ⌜ WebKeptRoom n y ⌝ }
+    ensures { λ r. ⌜ r ≡ web-kept n y ⌝ }
 {
-    let square = widths::plane_slenderness_squared(n, t, fyb, hp);
+    let hp = y.hp;
+    let square = widths::plane_slenderness_squared(n, y.t, y.fyb, hp);
     let u = square.root(n * 1_000_000);
-    let share = factors::plane_share(n, u);
+    let share = factors::share(n, factors::PLANE_FULL, factors::PLANE_LESS, u);
     widths::half_kept(n, share, hp)
 }
 
-// What counts after the sheet's refining rounds; be1 is that of the first working and stays.
-fn effective_section(
-    n: u64,
-    t: Core,
-    fyb: u64,
-    hp: Pair,
-    cp: Pair,
-    f1: Flange,
-    f2: Flange,
-    times: u64,
-) -> Kept
-    requires { ⌜ EffectiveRoom n (t .0) fyb hp cp f1 f2 ⌝ }
-    ensures { λ r. ⌜ r ≡ effective n (mm n (t .0)) (whole n fyb) hp cp f1 f2 times ⌝ }
+// What counts of a flange, from the first working and the last: be1 is that of the first and stays.
+fn effective_flange(first: RefinedFlange, last: RefinedFlange) -> EffectiveFlange
+    ensures { λ r. ⌜ r ≡ effective-flange first last ⌝ }
 {
-    let first = rounds::first_round(n, t, fyb, hp, cp, f1, f2);
-    let last = rounds::refined(n, t, fyb, hp, cp, f1, f2, first, times);
-    let he = web_kept(n, t, fyb, hp);
-    let one = first.one;
-    let two = first.two;
-    let first1 = one.be2;
-    let first2 = two.be2;
-    let stiffener1 = last.one;
-    let stiffener2 = last.two;
-    let chi1 = last.chi1;
-    let chi2 = last.chi2;
-    Kept {
-        first1,
-        first2,
-        p: he,
-        m: he,
-        one: stiffener1,
-        two: stiffener2,
-        chi1,
-        chi2,
+    let before = first.stiffener;
+    let be1 = before.be2;
+    let stiffener = last.stiffener;
+    let chi = last.chi;
+    EffectiveFlange {
+        be1,
+        stiffener,
+        chi,
     }
 }
 
+// What counts after the sheet's refining rounds.
+fn effective_section(n: u64, x: Member, times: u64) -> EffectiveParts
+    requires { ⌜ EffectiveRoom n x ⌝ }
+    ensures { λ r. ⌜ r ≡ effective n x times ⌝ }
+{
+    let first = rounds::first_round(n, x);
+    let last = rounds::refined(n, x, first, times);
+    let he = web_kept(n, x.common);
+    let one = effective_flange(first.one, last.one);
+    let two = effective_flange(first.two, last.two);
+    EffectiveParts {
+        one,
+        two,
+        p: he,
+        m: he,
+    }
+}
+
+// A flange that counts in full, with its lip: be2 = bp / 2 and c_eff = cp.
+fn full_stiffener(n: u64, cp: Pair, bp: Pair) -> Stiffener
+    requires { ⌜ FullFlangeRoom n cp bp ⌝ }
+    ensures { λ r. ⌜ r ≡ (full-flange n cp bp) .stiffener ⌝ }
+{
+    let be2 = bp.over_ratio(2, 1, n * 1_000_000);
+    let a = be2.plus(cp);
+    Stiffener { be2, c: cp, a }
+}
+
 // All full: be1 = be2 = bp / 2, he = hp / 2, c_eff = cp, and factors 1.
-pub fn full_section(n: u64, hp: Pair, cp: Pair, bp1: Pair, bp2: Pair) -> Kept
+pub fn full_section(n: u64, hp: Pair, cp: Pair, bp1: Pair, bp2: Pair) -> EffectiveParts
     requires { ⌜ FullRoom n hp cp bp1 bp2 ⌝ }
     ensures { λ r. ⌜ r ≡ full n hp cp bp1 bp2 ⌝ }
 {
     let s = n * 1_000_000;
     let he = hp.over_ratio(2, 1, s);
-    let b1 = bp1.over_ratio(2, 1, s);
-    let b2 = bp2.over_ratio(2, 1, s);
-    let a1 = b1.plus(cp);
-    let a2 = b2.plus(cp);
+    let stiffener1 = full_stiffener(n, cp, bp1);
+    let stiffener2 = full_stiffener(n, cp, bp2);
     let chi = Pair::ratio(1, 1, s);
-    let one = Stiffener {
-        be2: b1,
-        c: cp,
-        a: a1,
+    let be1 = stiffener1.be2;
+    let one = EffectiveFlange {
+        be1,
+        stiffener: stiffener1,
+        chi,
     };
-    let two = Stiffener {
-        be2: b2,
-        c: cp,
-        a: a2,
+    let be1_of_2 = stiffener2.be2;
+    let two = EffectiveFlange {
+        be1: be1_of_2,
+        stiffener: stiffener2,
+        chi,
     };
-    Kept {
-        first1: b1,
-        first2: b2,
-        p: he,
-        m: he,
+    EffectiveParts {
         one,
         two,
-        chi1: chi,
-        chi2: chi,
+        p: he,
+        m: he,
     }
 }
 
-pub fn lines_of(n: u64, q: Sheet) -> Lines
+pub fn lines_of(n: u64, q: Sheet) -> MidLines
     requires { ⌜ SheetRoom n q ⌝ }
-    ensures { λ r. ⌜ LinesAre n q r ⌝ }
+    ensures { λ r. ⌜ MidLinesAre n q r ⌝ }
 {
     let tnom = q.tnom;
     let hp = widths::mid_line(n, q.h, tnom);
     let cp = widths::lip_line(n, q.c, tnom);
     let bp1 = widths::mid_line(n, q.b1, tnom);
     let bp2 = widths::mid_line(n, q.b2, tnom);
-    Lines { hp, cp, bp1, bp2 }
+    MidLines { hp, cp, bp1, bp2 }
 }
 
 // The effective section of a sheet whose mid-line lengths are l.
-fn effective_of(n: u64, q: Sheet, l: Lines) -> Kept
-    requires { ⌜ SheetRoom n q × LinesAre n q l ⌝ }
+fn effective_of(n: u64, q: Sheet, l: MidLines) -> EffectiveParts
+    requires { ⌜ SheetRoom n q × MidLinesAre n q l ⌝ }
     ensures { λ r. ⌜ r ≡ effective-of n q ⌝ }
 {
     let t = q.t;
+    let fyb = q.fyb;
     let hp = l.hp;
     let cp = l.cp;
-    let bp1 = l.bp1;
-    let bp2 = l.bp2;
-    let f1 = rounds::flange_of(n, t, q.fyb, cp, bp1);
-    let f2 = rounds::second_flange(n, t, q.fyb, cp, bp1, bp2, f1);
-    effective_section(n, t, q.fyb, hp, cp, f1, f2, q.rounds)
+    let one = rounds::flange_of(n, t, fyb, cp, l.bp1);
+    let two = rounds::second_flange(n, t, fyb, cp, l.bp2, one);
+    let common = Common { t, fyb, hp, cp };
+    let x = Member { common, one, two };
+    effective_section(n, x, q.rounds)
 }
 
 // The gross section of a sheet whose mid-line lengths are l.
-fn full_of(n: u64, q: Sheet, l: Lines) -> Kept
-    requires { ⌜ SheetRoom n q × LinesAre n q l ⌝ }
+fn full_of(n: u64, q: Sheet, l: MidLines) -> EffectiveParts
+    requires { ⌜ SheetRoom n q × MidLinesAre n q l ⌝ }
     ensures { λ r. ⌜ r ≡ full-of n q ⌝ }
 {
     let hp = l.hp;
@@ -151,13 +156,15 @@ fn full_of(n: u64, q: Sheet, l: Lines) -> Kept
 }
 
 // Area, axes and shift of an effective section e beside the gross section g.
-fn worked_of(n: u64, q: Sheet, hp: Pair, e: Kept, g: Kept) -> Work
+fn worked_of(n: u64, q: Sheet, hp: Pair, e: EffectiveParts, g: EffectiveParts) -> Work
     requires { ⌜ SheetRoom n q × (hp ≡ hp-of n q) × (e ≡ effective-of n q) × (g ≡ full-of n q) ⌝ }
     ensures { λ r. ⌜ r ≡ workOf (worked n q) ⌝ }
 {
     let t = q.t;
-    let chi1 = e.chi1;
-    let chi2 = e.chi2;
+    let one = e.one;
+    let two = e.two;
+    let chi1 = one.chi;
+    let chi2 = two.chi;
     let length = moments::length(n, e);
     let area = widths::constant_times(n, t.0, 100, length);
     let z = moments::axis(n, hp, e, length);

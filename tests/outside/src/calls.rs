@@ -1,7 +1,8 @@
 //! The calls of the archive, as include/honemagenta.h declares them.
 
+use reference::sheet::Numbers;
 use reference::text::Answer;
-use reference::with_sheet_numbers;
+use reference::with_sheet_lines;
 
 extern "C" {
     fn hm_certificate_write(
@@ -24,7 +25,7 @@ pub fn check(certificate: &[u8]) -> Answer {
 }
 
 macro_rules! declare_from_numbers {
-    ($($number:ident),*) => {
+    ($($number:ident $place:ident $range:tt)*) => {
         extern "C" {
             fn hm_certificate_from_numbers(
                 $($number: u64,)*
@@ -33,11 +34,11 @@ macro_rules! declare_from_numbers {
             ) -> Answer;
         }
 
-        pub fn from_numbers([$($number),*]: [u64; 12], buffer: &mut [u8]) -> Answer {
+        pub fn from_numbers([$($number),*]: Numbers, buffer: &mut [u8]) -> Answer {
             let (room, buffer) = (buffer.len(), buffer.as_mut_ptr());
             unsafe { hm_certificate_from_numbers($($number,)* buffer, room) }
         }
     };
 }
 
-with_sheet_numbers!(declare_from_numbers);
+with_sheet_lines!(declare_from_numbers);

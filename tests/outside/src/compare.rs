@@ -2,7 +2,8 @@
 //! the memory in which the buffer lies.
 
 use crate::calls;
-use reference::text::{self, Answer, LONGEST_CERTIFICATE};
+use reference::sheet::Numbers;
+use reference::text::{self, Answer, LONGEST_CERTIFICATE, REFUSALS};
 use std::fmt::Write;
 
 /// What a call is given.
@@ -10,7 +11,7 @@ use std::fmt::Write;
 pub enum Call<'a> {
     Write(&'a [u8]),
     Check(&'a [u8]),
-    FromNumbers([u64; 12]),
+    FromNumbers(Numbers),
 }
 
 /// At least so many bytes stand on either side of a buffer, which no call may
@@ -23,11 +24,11 @@ fn front(room: usize) -> usize {
 }
 
 /// How many sheets or texts were tried, and how many calls agreed, by the
-/// refusal's number.
+/// refusal's number, 0 for none.
 #[derive(Default)]
 pub struct Agreed {
     pub cases: u64,
-    pub calls: [u64; 14],
+    pub calls: [u64; REFUSALS + 1],
 }
 
 impl Agreed {

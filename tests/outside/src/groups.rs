@@ -3,14 +3,14 @@
 use crate::compare::{Agreed, Call};
 use reference::cases::{certificates, sheets, text_of, with_figure_moved, z_section};
 use reference::chance::Chance;
-use reference::damage::{damaged, moved, FAULTS};
+use reference::damage::{damaged, every_fault, moved};
 use reference::edges::edges;
-use reference::finer::failures;
+use reference::finer::{failures, MULTIPLES};
 use reference::generate::sections;
 use reference::named::{SHEET_A, SHEET_B};
 use reference::random::any_section;
-use reference::sheet::{Figures, Sheet};
-use reference::text::{read_certificate, FIGURE_KEYS, LONGEST_CERTIFICATE as LONGEST};
+use reference::sheet::{Figures, Numbers, Sheet};
+use reference::text::{read_certificate, LONGEST_CERTIFICATE as LONGEST, MOST_SPELT};
 
 pub type Tried = Result<Agreed, String>;
 
@@ -23,13 +23,13 @@ fn chosen() -> Vec<Sheet> {
 
 /// Tries a sheet as text and as numbers and, where it is accepted, its certificate,
 /// which is returned.
-fn try_sheet(agreed: &mut Agreed, numbers: [u64; 12]) -> Result<Option<Vec<u8>>, String> {
+fn try_sheet(agreed: &mut Agreed, numbers: Numbers) -> Result<Option<Vec<u8>>, String> {
     agreed.cases += 1;
     let text = text_of(Sheet::from_numbers(numbers));
     let from_text = agreed.call(Call::Write(text.as_bytes()), LONGEST)?;
     let certificate = agreed.call(Call::FromNumbers(numbers), LONGEST)?;
     // A form from 2 on, and a number of more than ten digits, has no text.
-    let has_text = numbers[0] <= 1 && numbers.iter().all(|&n| n <= 9_999_999_999);
+    let has_text = numbers[0] <= 1 && numbers.iter().all(|&n| n <= MOST_SPELT);
     if has_text && from_text != certificate {
         return Err(format!(
             "text and numbers give two certificates: {numbers:?}\n"
@@ -43,7 +43,7 @@ fn try_sheet(agreed: &mut Agreed, numbers: [u64; 12]) -> Result<Option<Vec<u8>>,
 }
 
 /// Sheets that were built or found.
-pub fn given(sheets: impl IntoIterator<Item = [u64; 12]>) -> Tried {
+pub fn given(sheets: impl IntoIterator<Item = Numbers>) -> Tried {
     let mut agreed = Agreed::default();
     for numbers in sheets {
         try_sheet(&mut agreed, numbers)?;
@@ -69,14 +69,11 @@ pub fn kept_cases() -> Tried {
 
 /// The greatest word, 0, and form 2, in each place of some sheets.
 pub fn extreme_numbers() -> Tried {
-    let mut tried = vec![[u64::MAX; 12]];
+    let mut tried = vec![[u64::MAX; Sheet::LINES]];
     for section in chosen() {
-        for place in 0..12 {
-            for extreme in [0, 2, 1 << 32, u64::MAX] {
-                let mut numbers = section.numbers();
-                numbers[place] = extreme;
-                tried.push(numbers);
-            }
+        for place in 0..Sheet::LINES {
+            let with = |extreme| section.with_number(place, extreme).numbers();
+            tried.extend([0, 2, 1 << 32, u64::MAX].map(with));
         }
     }
     given(tried)
@@ -135,34 +132,15 @@ pub fn every_cut() -> Tried {
     Ok(agreed)
 }
 
-/// The text with a byte at a place changed, put in, or left out.
-fn faults_at(text: &[u8], at: usize) -> Vec<Vec<u8>> {
-    let (front, behind) = (&text[..at], &text[at + 1..]);
-    let mut faults = vec![[front, behind].concat()];
-    let near = [1, 255, 32, 128].map(|step| text[at].wrapping_add(step));
-    for byte in FAULTS.into_iter().chain(near) {
-        faults.push([front, &[byte], behind].concat());
-        faults.push([front, &[byte], &text[at..]].concat());
-    }
-    faults
-}
-
-/// A byte changed, put in and left out at every place, and bytes behind.
+/// One fault at every place, in every line and behind.
 pub fn every_place() -> Tried {
     let mut agreed = Agreed::default();
     for (sheet, certificate) in accepted_texts(chosen())?.into_iter().take(4) {
-        let faults = |text: &[u8]| -> Vec<Vec<u8>> {
-            let mut all: Vec<_> = (0..text.len()).flat_map(|at| faults_at(text, at)).collect();
-            for byte in FAULTS {
-                all.extend([1, 2, 300].map(|n| [text, &vec![byte; n]].concat()));
-            }
-            all
-        };
-        for fault in faults(sheet.as_bytes()) {
+        for fault in every_fault(sheet.as_bytes()) {
             agreed.cases += 1;
             agreed.call(Call::Write(&fault), LONGEST)?;
         }
-        for fault in faults(&certificate) {
+        for fault in every_fault(&certificate) {
             agreed.cases += 1;
             agreed.call(Call::Check(&fault), LONGEST)?;
         }
@@ -176,7 +154,7 @@ pub fn figures_moved(step: usize) -> Tried {
     let sections = sections().into_iter().step_by(step).collect();
     for (_, certificate) in accepted_texts(sections)? {
         let certificate = String::from_utf8(certificate).expect("a text");
-        for key in FIGURE_KEYS {
+        for key in Figures::KEYS {
             for by in [-2, -1, 1, 2] {
                 agreed.cases += 1;
                 let moved = with_figure_moved(&certificate, key, by);
@@ -202,31 +180,36 @@ pub fn random_numbers(seed: u64, count: u64) -> Tried {
     }))
 }
 
-/// Damaged sheets, written in rooms of any size.
-pub fn damaged_sheets(seed: u64, count: u64) -> Tried {
+/// Makes a call for each of so many pairs of a sheet's text and its certificate.
+fn on_accepted_texts(
+    seed: u64,
+    count: u64,
+    call: impl Fn(&mut Agreed, &mut Chance, &(String, Vec<u8>)) -> Result<Vec<u8>, String>,
+) -> Tried {
     let mut agreed = Agreed::default();
     let mut chance = Chance::seeded(seed);
     let whole = accepted_texts(sections())?;
     for _ in 0..count {
-        let (sheet, _) = &whole[chance.place(whole.len())];
-        let room = chance.place(LONGEST + 1);
+        let texts = &whole[chance.place(whole.len())];
         agreed.cases += 1;
-        agreed.call(Call::Write(&damaged(&mut chance, sheet.as_bytes())), room)?;
+        call(&mut agreed, &mut chance, texts)?;
     }
     Ok(agreed)
 }
 
+/// Damaged sheets, written in rooms of any size.
+pub fn damaged_sheets(seed: u64, count: u64) -> Tried {
+    on_accepted_texts(seed, count, |agreed, chance, (sheet, _)| {
+        let room = chance.place(LONGEST + 1);
+        agreed.call(Call::Write(&damaged(chance, sheet.as_bytes())), room)
+    })
+}
+
 /// Damaged certificates, checked.
 pub fn damaged_certificates(seed: u64, count: u64) -> Tried {
-    let mut agreed = Agreed::default();
-    let mut chance = Chance::seeded(seed);
-    let whole = accepted_texts(sections())?;
-    for _ in 0..count {
-        let (_, certificate) = &whole[chance.place(whole.len())];
-        agreed.cases += 1;
-        agreed.call(Call::Check(&damaged(&mut chance, certificate)), LONGEST)?;
-    }
-    Ok(agreed)
+    on_accepted_texts(seed, count, |agreed, chance, (_, certificate)| {
+        agreed.call(Call::Check(&damaged(chance, certificate)), LONGEST)
+    })
 }
 
 /// Demand 3 at some m: what a certificate shows, read back from its text, holds
@@ -241,12 +224,11 @@ pub fn finer_workings(seed: u64, count: u64, sheets: &[Sheet]) -> Tried {
             agreed.cases -= 1;
             continue;
         };
-        let (numbers, figures) = read_certificate(&certificate).expect("a certificate");
-        let (shown, figures) = (Sheet::from_numbers(numbers), Figures::from_numbers(figures));
-        for m in [2, 3, 10, 1000] {
+        let (shown, figures) = read_certificate(&certificate).expect("a certificate");
+        for m in MULTIPLES {
             let failed = failures(&shown, &figures, m);
             if !failed.is_empty() {
-                return Err(format!("m = {m}: {failed:?} fail of {numbers:?}\n"));
+                return Err(format!("m = {m}: {failed:?} fail of {shown:?}\n"));
             }
         }
     }

@@ -1,4 +1,4 @@
-//! Calls the archives of crates certificate and pair_c from outside: the
+//! Calls the archives of crates honemagenta and pair_c from outside: the
 //! certificate's calls beside the reference, answers and every byte of the
 //! buffers, and the pair operations beside exact results.
 //!
@@ -18,6 +18,8 @@ mod pair_calls;
 use groups::Tried;
 use operations::OPERATIONS;
 use reference::chance::Chance;
+use reference::finer::MULTIPLES;
+use reference::text::REFUSALS;
 use std::env;
 use std::process::ExitCode;
 use std::time::Instant;
@@ -98,12 +100,13 @@ fn certificates(asked: &Asked, count: u64) -> Result<u64, String> {
     let near = near::thresholds(seed, asked.long)?;
     let limits = near::at_limits(seed, if asked.long { 100 } else { 12 });
     let step = if asked.long { 1 } else { 60 };
+    let finer = format!("m = {}", MULTIPLES.map(|m| m.to_string()).join(", "));
     let near_numbers = || near.iter().map(|sheet| sheet.numbers());
     println!(
-        "\n{:24} {:>7} {:>8}   calls with refusal 0, 1, .. 13",
+        "\n{:24} {:>7} {:>8}   calls with refusal 0, 1, .. {REFUSALS}",
         "", "cases", "s"
     );
-    let groups: [(&str, &dyn Fn() -> Tried); 13] = [
+    let groups: &[(&str, &dyn Fn() -> Tried)] = &[
         ("near thresholds", &|| groups::given(near_numbers())),
         ("at limits", &|| groups::given(limits.iter().copied())),
         ("kept cases", &groups::kept_cases),
@@ -118,13 +121,11 @@ fn certificates(asked: &Asked, count: u64) -> Result<u64, String> {
         ("damaged certificates", &|| {
             groups::damaged_certificates(seed, count)
         }),
-        ("m = 2, 3, 10, 1000", &|| {
-            groups::finer_workings(seed, count / 4, &near)
-        }),
+        (&finer, &|| groups::finer_workings(seed, count / 4, &near)),
     ];
     let mut calls = 0;
     for (name, group) in groups {
-        calls += timed(name, group)?;
+        calls += timed(name, *group)?;
     }
     Ok(calls)
 }

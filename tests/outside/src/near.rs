@@ -3,7 +3,7 @@
 
 use reference::chance::Chance;
 use reference::limits::{at_limit, limits};
-use reference::sheet::Sheet;
+use reference::sheet::{Numbers, Sheet};
 use reference::thresholds::{kept, search, Near, KEPT, THRESHOLDS};
 use reference::working::worked;
 
@@ -44,7 +44,7 @@ fn row(counts: [u64; 5]) -> String {
 }
 
 /// Sheets at every limit of questions 2 to 10, so many at each distance from it.
-pub fn at_limits(seed: u64, wanted: usize) -> Vec<[u64; 12]> {
+pub fn at_limits(seed: u64, wanted: usize) -> Vec<Numbers> {
     println!(
         "\n{:40} {:>6}  {:23}",
         "sheets at a limit, met up to 0", "", "at -2 .. 2"

@@ -1,7 +1,7 @@
 //! Random operands of the pair operations: ends of their ranges, neighbours of
 //! powers of two, and operands whose result just fits 64 bits come up often.
 
-use crate::pair_calls::{Ends, SignedEnd, SignedEnds};
+use crate::pair_calls::{Integer, Pair, Signed};
 use reference::chance::Chance;
 
 pub const MOST: u64 = u64::MAX;
@@ -59,17 +59,17 @@ fn gap(chance: &mut Chance, limit: u64) -> u64 {
 }
 
 /// A pair up to a limit.
-pub fn ends(chance: &mut Chance, limit: u64) -> Ends {
+pub fn ends(chance: &mut Chance, limit: u64) -> Pair {
     let hi = up_to(chance, limit);
     let lo = hi - gap(chance, hi);
-    Ends { lo, hi }
+    Pair { lo, hi }
 }
 
 /// A pair from a least number on.
-pub fn ends_at_least(chance: &mut Chance, least: u64) -> Ends {
+pub fn ends_at_least(chance: &mut Chance, least: u64) -> Pair {
     let lo = at_least(chance, least);
     let hi = lo + gap(chance, MOST - lo);
-    Ends { lo, hi }
+    Pair { lo, hi }
 }
 
 /// The greatest b for which a × b ÷ d rounded up is a number of 64 bits.
@@ -95,15 +95,15 @@ pub fn least_divisor(a: u64, b: u64) -> u64 {
 }
 
 /// An integer from -limit to limit; 0 in both of its forms.
-pub fn signed_end(chance: &mut Chance, limit: u64) -> SignedEnd {
-    SignedEnd {
+pub fn signed_end(chance: &mut Chance, limit: u64) -> Integer {
+    Integer {
         below: chance.one_in(2),
         size: up_to(chance, limit),
     }
 }
 
 /// A signed pair from -limit to limit.
-pub fn signed_ends(chance: &mut Chance, limit: u64) -> SignedEnds {
+pub fn signed_ends(chance: &mut Chance, limit: u64) -> Signed {
     let lo = signed_end(chance, limit);
     let mut hi = signed_end(chance, limit);
     if chance.one_in(2) {
@@ -115,14 +115,14 @@ pub fn signed_ends(chance: &mut Chance, limit: u64) -> SignedEnds {
         }
     }
     if value(lo) <= value(hi) {
-        SignedEnds { lo, hi }
+        Signed { lo, hi }
     } else {
-        SignedEnds { lo: hi, hi: lo }
+        Signed { lo: hi, hi: lo }
     }
 }
 
 /// Two integers, often equal but for their signs or nearly so.
-pub fn close(chance: &mut Chance) -> [SignedEnd; 2] {
+pub fn close(chance: &mut Chance) -> [Integer; 2] {
     let a = signed_end(chance, MOST);
     let mut b = signed_end(chance, MOST);
     if chance.one_in(2) {
@@ -143,13 +143,13 @@ pub fn near_power(chance: &mut Chance, order: u32) -> u64 {
 
 /// A pair up to a limit, often with a power of that order at or beside its upper
 /// end.
-pub fn ends_at_power(chance: &mut Chance, limit: u64, order: u32) -> Ends {
+pub fn ends_at_power(chance: &mut Chance, limit: u64, order: u32) -> Pair {
     let hi = near_power(chance, order);
     if hi > limit {
         return ends(chance, limit);
     }
     let lo = hi - gap(chance, hi);
-    Ends { lo, hi }
+    Pair { lo, hi }
 }
 
 /// The greatest number of 64 bits whose product with the factor is below the bound.
@@ -176,7 +176,7 @@ fn common_divisor(mut a: u64, mut b: u64) -> u64 {
 }
 
 /// The integer that C's form stands for.
-pub fn value(end: SignedEnd) -> i128 {
+pub fn value(end: Integer) -> i128 {
     let size = i128::from(end.size);
     if end.below {
         -size
@@ -186,18 +186,18 @@ pub fn value(end: SignedEnd) -> i128 {
 }
 
 /// How far from zero an end lies.
-pub fn reach(a: SignedEnds) -> u64 {
+pub fn reach(a: Signed) -> u64 {
     a.lo.size.max(a.hi.size)
 }
 
-impl From<Ends> for [i128; 2] {
-    fn from(ends: Ends) -> [i128; 2] {
+impl From<Pair> for [i128; 2] {
+    fn from(ends: Pair) -> [i128; 2] {
         [ends.lo.into(), ends.hi.into()]
     }
 }
 
-impl From<SignedEnds> for [i128; 2] {
-    fn from(ends: SignedEnds) -> [i128; 2] {
+impl From<Signed> for [i128; 2] {
+    fn from(ends: Signed) -> [i128; 2] {
         [value(ends.lo), value(ends.hi)]
     }
 }
@@ -213,15 +213,15 @@ impl Argument for u64 {
     }
 }
 
-impl Argument for SignedEnd {
+impl Argument for Integer {
     fn in_c(&self) -> String {
-        format!("(SignedEnd){{{}, {}u}}", self.below, self.size)
+        format!("(Integer){{{}, {}u}}", self.below, self.size)
     }
 }
 
-impl Argument for SignedEnds {
+impl Argument for Signed {
     fn in_c(&self) -> String {
         let [lo, hi] = [self.lo, self.hi].map(|end| format!("{{{}, {}u}}", end.below, end.size));
-        format!("(SignedEnds){{{lo}, {hi}}}")
+        format!("(Signed){{{lo}, {hi}}}")
     }
 }

@@ -1,7 +1,8 @@
 //! Texts and numbers with faults.
 
 use crate::chance::Chance;
-use crate::sheet::RANGES;
+use crate::sheet::{Numbers, RANGES};
+use crate::text::MOST_SPELT;
 
 /// Bytes that a fault puts in: those with a meaning in a text and some others.
 pub const FAULTS: [u8; 18] = [
@@ -13,6 +14,77 @@ fn lines(text: &[u8]) -> Vec<Vec<u8>> {
     text.split_inclusive(|&byte| byte == b'\n')
         .map(<[u8]>::to_vec)
         .collect()
+}
+
+/// Values that lines may not have, or only some, and that one changed byte does not give.
+const VALUES: [&str; 8] = [
+    "",
+    "0",
+    "00",
+    "-0",
+    "-01",
+    "10000000000",
+    "-10000000000",
+    "18446744073709551616",
+];
+
+/// The text with a byte at a place changed, put in, or left out.
+fn faults_at(text: &[u8], at: usize) -> Vec<Vec<u8>> {
+    let (front, behind) = (&text[..at], &text[at + 1..]);
+    let mut faults = vec![[front, behind].concat()];
+    let near = [1, 255, 32, 128].map(|step| text[at].wrapping_add(step));
+    for byte in FAULTS.into_iter().chain(near) {
+        faults.push([front, &[byte], behind].concat());
+        faults.push([front, &[byte], &text[at..]].concat());
+    }
+    faults
+}
+
+/// A text with each line put otherwise, in each of some ways.
+fn each_line_put<const WAYS: usize>(
+    text: &[u8],
+    put: impl Fn(&[u8]) -> [Vec<u8>; WAYS],
+) -> Vec<Vec<u8>> {
+    let lines = lines(text);
+    let mut faults = Vec::new();
+    for (i, line) in lines.iter().enumerate() {
+        let (before, behind) = (lines[..i].concat(), lines[i + 1..].concat());
+        let with = |line: Vec<u8>| [&before[..], &line, &behind].concat();
+        faults.extend(put(line).map(with));
+    }
+    faults
+}
+
+/// A text with each line left out, doubled, in capitals, behind an empty one, ended by
+/// two bytes.
+fn line_faults(text: &[u8]) -> Vec<Vec<u8>> {
+    each_line_put(text, |line| {
+        let capitals = line.to_ascii_uppercase();
+        let ended = [line.trim_ascii_end(), b"\r\n"].concat();
+        let behind = [b"\n", line].concat();
+        [Vec::new(), line.repeat(2), capitals, behind, ended]
+    })
+}
+
+/// A text with other values in each line, most of them misspelt.
+fn value_faults(text: &[u8]) -> Vec<Vec<u8>> {
+    each_line_put(text, |line| {
+        let line = String::from_utf8_lossy(line);
+        let (key, _) = line.split_once('=').expect("key=value");
+        VALUES.map(|value| format!("{key}={value}\n").into_bytes())
+    })
+}
+
+/// The text with one fault: at every place, in every line, and bytes behind.
+pub fn every_fault(text: &[u8]) -> Vec<Vec<u8>> {
+    let places = (0..text.len()).flat_map(|at| faults_at(text, at));
+    let mut faults: Vec<_> = places.collect();
+    faults.extend(line_faults(text));
+    faults.extend(value_faults(text));
+    for byte in FAULTS {
+        faults.extend([1, 2, 300].map(|n| [text, &vec![byte; n]].concat()));
+    }
+    faults
 }
 
 /// Puts one more fault in.
@@ -75,8 +147,8 @@ fn another_value(chance: &mut Chance, mut lines: Vec<Vec<u8>>) -> Vec<Vec<u8>> {
 fn number(chance: &mut Chance) -> u64 {
     const EDGES: [u64; 8] = [
         0,
-        9_999_999_999,
-        10_000_000_000,
+        MOST_SPELT,
+        MOST_SPELT + 1,
         1 << 31,
         1 << 32,
         1 << 63,
@@ -103,7 +175,7 @@ pub fn damaged(chance: &mut Chance, text: &[u8]) -> Vec<u8> {
 
 /// A sheet's numbers with one to three of them moved a little, put to an end of
 /// their range or beside it, or replaced.
-pub fn moved(chance: &mut Chance, mut numbers: [u64; 12]) -> [u64; 12] {
+pub fn moved(chance: &mut Chance, mut numbers: Numbers) -> Numbers {
     for _ in 0..chance.between(1, 3) {
         let i = chance.place(numbers.len());
         let (least, greatest) = RANGES[i];

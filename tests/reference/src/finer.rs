@@ -1,8 +1,11 @@
-//! Demand 3: a working at m times our scale against the printed figures.
+//! Demand 3: a working at m times the sheet's scale against the printed figures.
 
-use crate::pair::{Pair, Scale};
+use crate::pair::Pair;
 use crate::sheet::{axial_resistance, Figures, Sheet};
 use crate::working::Working;
+
+/// Each m that is tried.
+pub const MULTIPLES: [i128; 4] = [2, 3, 10, 1000];
 
 /// How an end has to lie to its bound.
 #[derive(Clone, Copy, Debug, PartialEq, Eq)]
@@ -45,7 +48,7 @@ impl Inequality {
 
 /// The twelve inequalities; all must hold.
 pub fn inequalities(sheet: &Sheet, figures: &Figures, m: i128) -> Vec<Inequality> {
-    let scale = Scale::multiple(m);
+    let scale = sheet.finer_scale(m);
     let s = scale.units();
     let working = Working::of(sheet, scale);
     let allow = sheet.allow as i128;

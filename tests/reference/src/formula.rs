@@ -208,7 +208,7 @@ mod tests {
 
     #[test]
     #[should_panic(expected = "no number: x")]
-    fn unknown_symbols_are_told() {
+    fn unknown_symbols_are_reported() {
         worked("a×x");
     }
 

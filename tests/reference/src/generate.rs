@@ -6,7 +6,9 @@ use crate::kinds::*;
 use crate::named::{LONGEST_LIP, SHEET_A, SHEET_B};
 use crate::pair::divide_up;
 use crate::random::*;
-use crate::sheet::{place, Figures, Sheet, RANGES};
+use crate::rules::{thousandths, FACTOR_JUMPS_AT, FACTOR_ONE_TO, OUTSTAND, SUPPORTED};
+use crate::sheet::place::{B1, C, H, ROUNDS, T, TNOM};
+use crate::sheet::{Figures, Sheet, RANGES};
 use crate::working::{worked, Working};
 use std::sync::OnceLock;
 
@@ -67,15 +69,19 @@ fn search_all() -> Vec<Sheet> {
     found
 }
 
-/// The two neighbours in a field between which a worked value crosses a mark.
+/// The two neighbours of a sheet, by the number at a place, between which a worked
+/// value crosses a mark in thousandths.
 pub(crate) fn crossing(
     sheet: &Sheet,
-    field: Field,
+    place: usize,
     value: impl Fn(&Working) -> i128,
     mark: i128,
 ) -> Option<[Sheet; 2]> {
-    let (mut least, mut greatest) = room(sheet, field)?;
-    let past = |x: u64| value(&worked(&field.set(sheet, x))) > mark;
+    let (mut least, mut greatest) = room(sheet, place)?;
+    let past = |x: u64| {
+        let working = worked(&sheet.with_number(place, x));
+        value(&working) > thousandths(working.scale, mark)
+    };
     let at_least = past(least);
     if past(greatest) == at_least {
         return None;
@@ -88,37 +94,37 @@ pub(crate) fn crossing(
             greatest = middle;
         }
     }
-    Some([field.set(sheet, least), field.set(sheet, greatest)])
+    Some([least, greatest].map(|x| sheet.with_number(place, x)))
 }
 
 /// The neighbour of a crossing that shows what is looked for.
 fn searched(
     sheet: &Sheet,
-    field: Field,
+    place: usize,
     value: impl Fn(&Working) -> i128,
     mark: i128,
     shows: impl Fn(&Working) -> bool,
 ) -> Option<Sheet> {
-    crossing(sheet, field, value, mark)?
+    crossing(sheet, place, value, mark)?
         .into_iter()
         .find(|near| meets_questions(near) && shows(&worked(near)))
 }
 
 /// tnom at least three times t.
 fn much_coating(chance: &mut Chance) -> Option<Sheet> {
-    let t = chance.between(RANGES[place::T].0, 200);
-    let tnom = chance.between(3 * t, RANGES[place::TNOM].1);
+    let t = chance.between(RANGES[T].0, 200);
+    let tnom = chance.between(3 * t, RANGES[TNOM].1);
     try_section(chance, tnom, t, SELDOM)
 }
 
 /// Form Z with hp < c/2.
 fn lips_past_web(chance: &mut Chance) -> Option<Sheet> {
-    let t = chance.between(190, RANGES[place::T].1);
-    let tnom = chance.between(t, RANGES[place::TNOM].1);
-    let widest = RANGES[place::B1].1;
+    let t = chance.between(190, RANGES[T].1);
+    let tnom = chance.between(t, RANGES[TNOM].1);
+    let widest = RANGES[B1].1;
     let mut sheet = try_section(chance, tnom, t, SELDOM)?;
     sheet.form = 1;
-    sheet.h = any_in_range(chance, (RANGES[place::H].0, 6500), 3);
+    sheet.h = any_in_range(chance, (RANGES[H].0, 6500), 3);
     sheet.b1 = any_in_range(chance, (11_000, widest), 3);
     sheet.b2 = if chance.one_in(2) {
         sheet.b1
@@ -126,7 +132,7 @@ fn lips_past_web(chance: &mut Chance) -> Option<Sheet> {
         chance.between(11_000, widest)
     };
     sheet.r = chance.between(0, 1000);
-    let (least, greatest) = room(&sheet, Field::C)?;
+    let (least, greatest) = room(&sheet, C)?;
     let least = least.max(2 * (sheet.h - tnom) + 1);
     if least > greatest {
         return None;
@@ -144,9 +150,9 @@ fn lip_past_flange(chance: &mut Chance) -> Option<Sheet> {
 /// Form Z with hp − c2÷2 straddling zero.
 fn lip_across_flange(chance: &mut Chance) -> Option<Sheet> {
     let mut sheet = lips_past_web(chance)?;
-    sheet.rounds = chance.between(0, RANGES[place::ROUNDS].1);
+    sheet.rounds = chance.between(0, RANGES[ROUNDS].1);
     let across = |w: &Working| straddles_zero(lip_middle(w));
-    searched(&sheet, Field::H, |w| lip_middle(w).lo, 0, across)
+    searched(&sheet, H, |w| lip_middle(w).lo, 0, across)
 }
 
 /// A lip's q just past 0.35.
@@ -187,28 +193,28 @@ fn deep_lips_of_c(chance: &mut Chance) -> Option<Sheet> {
 
 fn web_at_threshold(chance: &mut Chance) -> Option<Sheet> {
     let sheet = random_section(chance)?;
-    searched(&sheet, Field::H, |w| w.web.u.hi, 673_000, web_near)
+    searched(&sheet, H, |w| w.web.u.hi, SUPPORTED.full_to, web_near)
 }
 
 fn flange_at_threshold(chance: &mut Chance) -> Option<Sheet> {
     let sheet = random_section(chance)?;
     let i = chance.place(2);
     let value = |w: &Working| w.rounds[0].stiffeners[i].flange.u.hi;
-    searched(&sheet, Field::of_flange(i), value, 673_000, flange_near)
+    searched(&sheet, FLANGES[i], value, SUPPORTED.full_to, flange_near)
 }
 
 fn lip_at_threshold(chance: &mut Chance) -> Option<Sheet> {
     let sheet = random_section(chance)?;
     let i = chance.place(2);
     let value = |w: &Working| w.rounds[0].stiffeners[i].lip.u.hi;
-    searched(&sheet, Field::C, value, 748_000, lip_near)
+    searched(&sheet, C, value, OUTSTAND.full_to, lip_near)
 }
 
 /// A random section with refining rounds, one of them chosen, and one of its
 /// stiffeners.
 fn with_refining(chance: &mut Chance) -> Option<(Sheet, usize, usize)> {
     let mut sheet = random_section(chance)?;
-    sheet.rounds = chance.between(1, RANGES[place::ROUNDS].1);
+    sheet.rounds = chance.between(1, RANGES[ROUNDS].1);
     let round = if chance.one_in(2) {
         1
     } else {
@@ -220,13 +226,13 @@ fn with_refining(chance: &mut Chance) -> Option<(Sheet, usize, usize)> {
 fn refined_flange_at_threshold(chance: &mut Chance) -> Option<Sheet> {
     let (sheet, round, i) = with_refining(chance)?;
     let value = |w: &Working| w.rounds[round].stiffeners[i].flange.u.hi;
-    searched(&sheet, Field::H, value, 673_000, refined_flange_near)
+    searched(&sheet, H, value, SUPPORTED.full_to, refined_flange_near)
 }
 
 fn refined_lip_at_threshold(chance: &mut Chance) -> Option<Sheet> {
     let (sheet, round, i) = with_refining(chance)?;
     let value = |w: &Working| w.rounds[round].stiffeners[i].lip.u.hi;
-    searched(&sheet, Field::H, value, 748_000, refined_lip_near)
+    searched(&sheet, H, value, OUTSTAND.full_to, refined_lip_near)
 }
 
 /// ud at 0.65.
@@ -235,7 +241,9 @@ fn ud_at_threshold(chance: &mut Chance) -> Option<Sheet> {
     let round = chance.between(0, sheet.rounds) as usize;
     let i = chance.place(2);
     let value = |w: &Working| w.rounds[round].stiffeners[i].ud.hi;
-    searched(&sheet, Field::H, value, 650_000, |w| ud_near(w, 650))
+    searched(&sheet, H, value, FACTOR_ONE_TO, |w| {
+        ud_near(w, FACTOR_ONE_TO)
+    })
 }
 
 /// ud across 1.38, where χ jumps.
@@ -243,13 +251,13 @@ fn jump_in_last_round(chance: &mut Chance) -> Option<Sheet> {
     let sheet = random_section(chance)?;
     let i = chance.place(2);
     let value = |w: &Working| w.rounds[w.rounds.len() - 1].stiffeners[i].ud.hi;
-    searched(&sheet, Field::H, value, 1_380_000, straddles_last)
+    searched(&sheet, H, value, FACTOR_JUMPS_AT, straddles_last)
 }
 
 fn jump_in_earlier_round(chance: &mut Chance) -> Option<Sheet> {
     let (sheet, round, i) = with_refining(chance)?;
     let value = |w: &Working| w.rounds[round - 1].stiffeners[i].ud.hi;
-    searched(&sheet, Field::H, value, 1_380_000, straddles_earlier)
+    searched(&sheet, H, value, FACTOR_JUMPS_AT, straddles_earlier)
 }
 
 /// The least allow that question 11 lets pass.

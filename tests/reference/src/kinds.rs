@@ -1,7 +1,9 @@
 //! What a section can show: the kinds of which the cases have to have some.
 
 use crate::pair::Pair;
-use crate::rules::{straddles_jump, thousandths};
+use crate::rules::{
+    straddles_jump, thousandths, FACTOR_JUMPS_AT, FACTOR_ONE_TO, LIP_HALF_TO, OUTSTAND, SUPPORTED,
+};
 use crate::sheet::{ask_allowance, Figures, Sheet};
 use crate::working::{Round, Stiffener, Working};
 
@@ -15,13 +17,15 @@ pub const KINDS: [Kind; 25] = [
     ("flange 2 wider", |s, _| s.b1 < s.b2),
     ("flanges equal", |s, _| s.b1 == s.b2),
     ("lip past q = 0.35", |_, w| {
-        some_ratio(w, |q| q.hi > 350_000)
+        some_ratio(w, |q| past_half(q) > 0)
     }),
     ("lip with 0.35 < q < 0.351", |_, w| {
-        some_ratio(w, |q| q.hi > 350_000 && q.hi < 351_000)
+        some_ratio(w, |q| {
+            past_half(q) > 0 && past_half(q) < thousandths(q.scale, 1)
+        })
     }),
     ("lip at q = 0.35", |_, w| {
-        some_ratio(w, |q| q.ends() == (350_000, 350_000))
+        some_ratio(w, |q| past_half(q) == 0 && q.lo == q.hi)
     }),
     ("web u within 2 units of 0.673", |_, w| web_near(w)),
     ("flange u within 2 units of 0.673, round 0", |_, w| {
@@ -35,8 +39,12 @@ pub const KINDS: [Kind; 25] = [
     ("lip u within 2 units of 0.748, refining round", |_, w| {
         refined_lip_near(w)
     }),
-    ("ud within 2 units of 0.65", |_, w| ud_near(w, 650)),
-    ("ud within 2 units of 1.38", |_, w| ud_near(w, 1380)),
+    ("ud within 2 units of 0.65", |_, w| {
+        ud_near(w, FACTOR_ONE_TO)
+    }),
+    ("ud within 2 units of 1.38", |_, w| {
+        ud_near(w, FACTOR_JUMPS_AT)
+    }),
     ("ud straddling 1.38 in the last round", |_, w| {
         straddles_last(w)
     }),
@@ -63,6 +71,11 @@ pub fn count(sections: &[(Sheet, Working)], is_kind: impl Fn(&Sheet, &Working) -
     sections.iter().filter(of_kind).count()
 }
 
+/// How far the upper end of q lies past the greatest q whose k is 0.5.
+fn past_half(q: Pair) -> i128 {
+    q.hi - thousandths(q.scale, LIP_HALF_TO)
+}
+
 /// Some lip's q shows it.
 fn some_ratio(working: &Working, shows: fn(Pair) -> bool) -> bool {
     working.lip_ratios.iter().any(|lip| shows(lip.q))
@@ -82,23 +95,27 @@ fn near(pair: Pair, mark: i128) -> bool {
 }
 
 pub(crate) fn web_near(working: &Working) -> bool {
-    near(working.web.u, 673)
+    near(working.web.u, SUPPORTED.full_to)
 }
 
 pub(crate) fn flange_near(working: &Working) -> bool {
-    some_stiffener(&working.rounds[..1], |s| near(s.flange.u, 673))
+    some_stiffener(&working.rounds[..1], |s| {
+        near(s.flange.u, SUPPORTED.full_to)
+    })
 }
 
 pub(crate) fn refined_flange_near(working: &Working) -> bool {
-    some_stiffener(&working.rounds[1..], |s| near(s.flange.u, 673))
+    some_stiffener(&working.rounds[1..], |s| {
+        near(s.flange.u, SUPPORTED.full_to)
+    })
 }
 
 pub(crate) fn lip_near(working: &Working) -> bool {
-    some_stiffener(&working.rounds[..1], |s| near(s.lip.u, 748))
+    some_stiffener(&working.rounds[..1], |s| near(s.lip.u, OUTSTAND.full_to))
 }
 
 pub(crate) fn refined_lip_near(working: &Working) -> bool {
-    some_stiffener(&working.rounds[1..], |s| near(s.lip.u, 748))
+    some_stiffener(&working.rounds[1..], |s| near(s.lip.u, OUTSTAND.full_to))
 }
 
 /// In any round; the mark is in thousandths.

@@ -27,7 +27,11 @@ pub mod kinds;
 pub mod limits;
 pub mod named;
 pub mod random;
+pub mod section_cases;
 pub mod thresholds;
+
+/// Files of the repository that the reference makes.
+pub mod kept;
 
 /// Files of the repository that constants and words are read from.
 pub mod repository;

@@ -4,8 +4,7 @@
 use crate::chance::Chance;
 use crate::random::random_section;
 use crate::sheet::place::{B1, B2, C, H, R, T, TNOM};
-use crate::sheet::{ask_before_working, RANGES};
-use crate::text::SHEET_KEYS;
+use crate::sheet::{ask_before_working, Numbers, Sheet, RANGES};
 
 /// The sum of factors times the numbers at some places, less a constant.
 pub struct Limit {
@@ -58,10 +57,10 @@ impl Limit {
     /// The question, and the sum that is to be at most 0.
     pub fn name(&self) -> String {
         let term = |&(factor, place): &(i128, usize)| match factor {
-            1 => format!(" + {}", SHEET_KEYS[place]),
-            -1 => format!(" - {}", SHEET_KEYS[place]),
-            0.. => format!(" + {factor} {}", SHEET_KEYS[place]),
-            _ => format!(" - {} {}", -factor, SHEET_KEYS[place]),
+            1 => format!(" + {}", Sheet::KEYS[place]),
+            -1 => format!(" - {}", Sheet::KEYS[place]),
+            0.. => format!(" + {factor} {}", Sheet::KEYS[place]),
+            _ => format!(" - {} {}", -factor, Sheet::KEYS[place]),
         };
         let constant = match self.constant {
             0 => String::new(),
@@ -73,13 +72,13 @@ impl Limit {
         format!("question {}: {sum}", self.question)
     }
 
-    fn value(&self, numbers: [u64; 12]) -> i128 {
+    fn value(&self, numbers: Numbers) -> i128 {
         let product = |&(factor, place): &(i128, usize)| factor * numbers[place] as i128;
         self.factors.iter().map(product).sum::<i128>() - self.constant
     }
 
     /// The sheet with one number changed so that the sum has the value.
-    fn with_value(&self, mut numbers: [u64; 12], changed: usize, value: i128) -> Option<[u64; 12]> {
+    fn with_value(&self, mut numbers: Numbers, changed: usize, value: i128) -> Option<Numbers> {
         let (factor, place) = self.factors[changed];
         let more = value - self.value(numbers);
         if more % factor != 0 {
@@ -91,7 +90,7 @@ impl Limit {
 
     /// Whether this limit decides: it is not met and is the first that is not,
     /// or it is met and the questions up to it are, with `strict` all of 2 to 10.
-    fn decides(&self, numbers: [u64; 12], strict: bool) -> bool {
+    fn decides(&self, numbers: Numbers, strict: bool) -> bool {
         let refused = ask_before_working(numbers)
             .err()
             .map(|refusal| refusal.number);
@@ -106,7 +105,7 @@ impl Limit {
 const TRIES: usize = 100_000;
 
 /// So many sheets with the sum at each of -2 to 2; fewer where they are not found.
-pub fn at_limit(limit: &Limit, chance: &mut Chance, wanted: usize) -> [Vec<[u64; 12]>; 5] {
+pub fn at_limit(limit: &Limit, chance: &mut Chance, wanted: usize) -> [Vec<Numbers>; 5] {
     [-2, -1, 0, 1, 2].map(|value| {
         let mut found = Vec::new();
         for attempt in 0..TRIES {
@@ -120,7 +119,7 @@ pub fn at_limit(limit: &Limit, chance: &mut Chance, wanted: usize) -> [Vec<[u64;
     })
 }
 
-fn try_at(limit: &Limit, chance: &mut Chance, value: i128) -> Option<[u64; 12]> {
+fn try_at(limit: &Limit, chance: &mut Chance, value: i128) -> Option<Numbers> {
     let mut sheet = random_section(chance)?;
     sheet.allow = 1000;
     if limit.question == 10 {

@@ -1,57 +1,36 @@
 //! Random sections over the whole ranges. All meet questions 2 to 10.
 
 use crate::chance::Chance;
-use crate::sheet::{ask_before_working, place, Sheet, RANGES};
+use crate::sheet::place::{ALLOW, B1, B2, C, FYB, GM0, H, R, ROUNDS, T, TNOM};
+use crate::sheet::{ask_before_working, Sheet, RANGES};
 
 pub(crate) fn meets_questions(sheet: &Sheet) -> bool {
     ask_before_working(sheet.numbers()).is_ok()
 }
 
-/// A number of the sheet that a search moves.
-#[derive(Clone, Copy)]
-pub(crate) enum Field {
-    H,
-    B1,
-    B2,
-    C,
-}
+/// The places of both flanges.
+pub(crate) const FLANGES: [usize; 2] = [B1, B2];
 
-impl Field {
-    pub(crate) fn set(self, sheet: &Sheet, value: u64) -> Sheet {
-        let mut changed = *sheet;
-        match self {
-            Field::H => changed.h = value,
-            Field::B1 => changed.b1 = value,
-            Field::B2 => changed.b2 = value,
-            Field::C => changed.c = value,
-        }
-        changed
-    }
-
-    /// The width of the first or the second flange.
-    pub(crate) fn of_flange(i: usize) -> Field {
-        [Field::B1, Field::B2][i]
-    }
-}
-
-/// Least and greatest value that range and questions 4 to 10 leave to a field.
-pub(crate) fn room(sheet: &Sheet, field: Field) -> Option<(u64, u64)> {
-    let (least, greatest) = match field {
-        Field::H => web_room(sheet),
-        Field::B1 | Field::B2 => flange_room(sheet),
-        Field::C => lip_room(sheet),
+/// Least and greatest value that range and questions 4 to 10 leave to the web, a
+/// flange or the lip, by its place.
+pub(crate) fn room(sheet: &Sheet, place: usize) -> Option<(u64, u64)> {
+    let (least, greatest) = match place {
+        H => web_room(sheet),
+        B1 | B2 => flange_room(sheet),
+        C => lip_room(sheet),
+        _ => panic!("no width at place {place}"),
     };
     (least <= greatest).then_some((least, greatest))
 }
 
 fn web_room(sheet: &Sheet) -> (u64, u64) {
-    let (least, greatest) = RANGES[place::H];
+    let (least, greatest) = RANGES[H];
     let lips = if sheet.is_z() { 0 } else { 2 * sheet.c };
     (least.max(lips), greatest.min(500 * sheet.t))
 }
 
 fn flange_room(sheet: &Sheet) -> (u64, u64) {
-    let (least, greatest) = RANGES[place::B1];
+    let (least, greatest) = RANGES[B1];
     let midline = sheet.tnom + (5 * (2 * sheet.c - sheet.tnom)).div_ceil(6);
     let least = least.max((5 * sheet.c).div_ceil(3)).max(midline);
     let least = least.max(sheet.tnom + 10 * sheet.r);
@@ -59,7 +38,7 @@ fn flange_room(sheet: &Sheet) -> (u64, u64) {
 }
 
 fn lip_room(sheet: &Sheet) -> (u64, u64) {
-    let (least, greatest) = RANGES[place::C];
+    let (least, greatest) = RANGES[C];
     let wide = sheet.b1.max(sheet.b2);
     let narrow = sheet.b1.min(sheet.b2);
     let midline = (sheet.tnom + 6 * (narrow - sheet.tnom) / 5) / 2;
@@ -73,9 +52,9 @@ pub(crate) const SELDOM: u64 = 20;
 const OFTEN: u64 = 2;
 const ALWAYS: u64 = 1;
 
-/// A value in the room of a field, once in `ends` at or beside an end of it.
-fn any_in_room(chance: &mut Chance, sheet: &Sheet, field: Field, ends: u64) -> Option<Sheet> {
-    let (least, greatest) = room(sheet, field)?;
+/// A value in the room at a place, once in `ends` at or beside an end of it.
+fn any_in_room(chance: &mut Chance, sheet: &Sheet, place: usize, ends: u64) -> Option<Sheet> {
+    let (least, greatest) = room(sheet, place)?;
     let value = if chance.one_in(ends) {
         chance.one_of(&[
             least,
@@ -86,7 +65,7 @@ fn any_in_room(chance: &mut Chance, sheet: &Sheet, field: Field, ends: u64) -> O
     } else {
         chance.between(least, greatest)
     };
-    Some(field.set(sheet, value))
+    Some(sheet.with_number(place, value))
 }
 
 /// A value in a range, once in `ends` at an end of it.
@@ -100,31 +79,31 @@ pub(crate) fn any_in_range(chance: &mut Chance, (least, greatest): (u64, u64), e
 
 /// A section over the whole ranges with given thicknesses, or none.
 pub(crate) fn try_section(chance: &mut Chance, tnom: u64, t: u64, ends: u64) -> Option<Sheet> {
-    let (narrowest, widest) = RANGES[place::B1];
+    let (narrowest, widest) = RANGES[B1];
     let b = any_in_range(chance, (narrowest, widest.min(60 * t)), ends);
-    let mut sheet = Sheet {
-        form: chance.between(0, 1),
-        h: RANGES[place::H].1,
-        b1: b,
-        b2: b,
-        c: RANGES[place::C].0,
-        r: 0,
+    let mut sheet = Sheet::from_numbers([
+        chance.between(0, 1),
+        RANGES[H].1,
+        b,
+        b,
+        RANGES[C].0,
+        0,
         tnom,
         t,
-        fyb: any_in_range(chance, RANGES[place::FYB], ends),
-        gm0: any_in_range(chance, RANGES[place::GM0], ends),
-        rounds: chance.between(0, RANGES[place::ROUNDS].1),
-        allow: any_allowance(chance),
-    };
-    sheet = any_in_room(chance, &sheet, Field::C, ends)?;
+        any_in_range(chance, RANGES[FYB], ends),
+        any_in_range(chance, RANGES[GM0], ends),
+        chance.between(0, RANGES[ROUNDS].1),
+        any_allowance(chance),
+    ]);
+    sheet = any_in_room(chance, &sheet, C, ends)?;
     sheet = match chance.between(0, 4) {
         0 => sheet,
-        1 | 2 => any_in_room(chance, &sheet, Field::B1, ends)?,
-        _ => any_in_room(chance, &sheet, Field::B2, ends)?,
+        1 | 2 => any_in_room(chance, &sheet, B1, ends)?,
+        _ => any_in_room(chance, &sheet, B2, ends)?,
     };
-    sheet = any_in_room(chance, &sheet, Field::H, ends)?;
+    sheet = any_in_room(chance, &sheet, H, ends)?;
     let narrow = sheet.b1.min(sheet.b2) - tnom;
-    let largest_radius = RANGES[place::R].1.min(5 * t).min(narrow / 10);
+    let largest_radius = RANGES[R].1.min(5 * t).min(narrow / 10);
     sheet.r = any_in_range(chance, (0, largest_radius), ends);
     meets_questions(&sheet).then_some(sheet)
 }
@@ -135,14 +114,14 @@ fn any_allowance(chance: &mut Chance) -> u64 {
         1 => 1,
         2 => 10,
         3 => 1000,
-        _ => chance.between(0, RANGES[place::ALLOW].1),
+        _ => chance.between(0, RANGES[ALLOW].1),
     }
 }
 
 /// Nominal and core thickness, close together half of the time.
 fn any_thicknesses(chance: &mut Chance, ends: u64) -> (u64, u64) {
-    let (least, greatest) = RANGES[place::TNOM];
-    let t = any_in_range(chance, RANGES[place::T], ends);
+    let (least, greatest) = RANGES[TNOM];
+    let t = any_in_range(chance, RANGES[T], ends);
     let tnom = any_in_range(chance, (t.max(least), greatest), ends);
     if chance.one_in(2) {
         ((t + chance.between(0, 8)).clamp(least, greatest), t)

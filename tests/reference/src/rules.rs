@@ -51,6 +51,9 @@ impl WidthRule {
     }
 }
 
+/// The greatest q of a lip whose k is 0.5, in thousandths.
+pub const LIP_HALF_TO: i128 = 350;
+
 /// k of a lip from q, end by end: each operation rounded down for the lower
 /// end and up for the upper.
 pub fn lip_coefficient(q: Pair) -> Pair {
@@ -63,13 +66,17 @@ pub fn lip_coefficient(q: Pair) -> Pair {
 /// for a q with equal ends.
 fn coefficient_at(q: Pair) -> Pair {
     let s = q.scale;
-    let threshold = s.exact(35, 100);
+    let threshold = s.exact(LIP_HALF_TO, 1000);
     let half = s.exact(1, 2);
     if q.lo <= threshold.lo {
         return half;
     }
     half + s.exact(83, 100) * ((q - threshold) * (q - threshold)).cube_root()
 }
+
+/// χ is 1 up to the first ud and jumps at the second, in thousandths.
+pub const FACTOR_ONE_TO: i128 = 650;
+pub const FACTOR_JUMPS_AT: i128 = 1380;
 
 /// The thickness factor χ of the stiffener's slenderness ud.
 pub fn thickness_factor(ud: Pair) -> Pair {
@@ -78,7 +85,7 @@ pub fn thickness_factor(ud: Pair) -> Pair {
     if straddles_jump(ud) {
         let s = ud.scale;
         let below_jump = s.exact(47_226, 100_000).lo;
-        let above_jump = factor_at(thousandths(s, 1380), s, divide_up);
+        let above_jump = factor_at(thousandths(s, FACTOR_JUMPS_AT), s, divide_up);
         return s.pair(below_jump.min(at_upper), above_jump.max(at_lower));
     }
     ud.scale.pair(at_upper, at_lower)
@@ -86,16 +93,16 @@ pub fn thickness_factor(ud: Pair) -> Pair {
 
 /// The lower end is below 1.38 and the upper is not.
 pub fn straddles_jump(ud: Pair) -> bool {
-    let jump = thousandths(ud.scale, 1380);
+    let jump = thousandths(ud.scale, FACTOR_JUMPS_AT);
     ud.lo < jump && ud.hi >= jump
 }
 
 /// χ exact at one ud, rounded once.
 fn factor_at(ud: i128, scale: Scale, rounded: Rounded) -> i128 {
     let s = scale.units();
-    if ud <= thousandths(scale, 650) {
+    if ud <= thousandths(scale, FACTOR_ONE_TO) {
         s
-    } else if ud < thousandths(scale, 1380) {
+    } else if ud < thousandths(scale, FACTOR_JUMPS_AT) {
         rounded(1470 * s - 723 * ud, 1000).min(s)
     } else {
         rounded(66 * s * s, 100 * ud)

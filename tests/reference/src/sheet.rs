@@ -1,106 +1,127 @@
-//! The twelve numbers, questions 2 to 11 and the printed figures
+//! The numbers of a sheet, questions 2 to 11 and the printed figures
 //! (document 01, "Sheet and certificate", "The questions, in this order",
 //! "Printed").
 
 use crate::pair::{divide_down, divide_up, Pair, Scale};
 use crate::working::{worked, Working};
 
-/// A sheet: lengths in 0.01 mm, fyb in N/mm², gm0 in thousandths, allow in
-/// 0.01 mm²; form 0 for C, 1 for Z.
-#[derive(Clone, Copy, Debug, PartialEq, Eq)]
-pub struct Sheet {
-    pub form: u64,
-    pub h: u64,
-    pub b1: u64,
-    pub b2: u64,
-    pub c: u64,
-    pub r: u64,
-    pub tnom: u64,
-    pub t: u64,
-    pub fyb: u64,
-    pub gm0: u64,
-    pub rounds: u64,
-    pub allow: u64,
-}
-
-/// Places of the numbers in a sheet.
-pub mod place {
-    pub const H: usize = 1;
-    pub const B1: usize = 2;
-    pub const B2: usize = 3;
-    pub const C: usize = 4;
-    pub const R: usize = 5;
-    pub const TNOM: usize = 6;
-    pub const T: usize = 7;
-    pub const FYB: usize = 8;
-    pub const GM0: usize = 9;
-    pub const ROUNDS: usize = 10;
-    pub const ALLOW: usize = 11;
-}
-
-/// Hands the names of the twelve numbers, in the sheet's order, to a macro: for
-/// the calls of C, which take the numbers one by one.
+/// Hands the lines of a sheet to a macro, in order: key, place, least and greatest
+/// value. Only here do the lines stand one by one.
 #[macro_export]
-macro_rules! with_sheet_numbers {
+macro_rules! with_sheet_lines {
     ($to:ident) => {
-        $to! { form, h, b1, b2, c, r, tnom, t, fyb, gm0, rounds, allow }
+        $to! {
+            form   FORM   [0, 1]
+            h      H      [4000, 50000]
+            b1     B1     [2000, 20000]
+            b2     B2     [2000, 20000]
+            c      C      [500, 12000]
+            r      R      [0, 3000]
+            tnom   TNOM   [50, 600]
+            t      T      [45, 600]
+            fyb    FYB    [200, 700]
+            gm0    GM0    [1000, 1500]
+            rounds ROUNDS [0, 8]
+            allow  ALLOW  [0, 1000]
+        }
     };
 }
 
-/// Ranges of lines 1 to 12, both ends included.
-pub const RANGES: [(u64, u64); 12] = [
-    (0, 1),
-    (4000, 50000),
-    (2000, 20000),
-    (2000, 20000),
-    (500, 12000),
-    (0, 3000),
-    (50, 600),
-    (45, 600),
-    (200, 700),
-    (1000, 1500),
-    (0, 8),
-    (0, 1000),
-];
+/// A struct of the numbers of some lines: from the numbers in the order of the
+/// lines, and back.
+macro_rules! numbers_of_lines {
+    ($(#[$about:meta])* $lines:ident of $number:ty: $($key:ident)*) => {
+        $(#[$about])*
+        #[derive(Clone, Copy, Debug, PartialEq, Eq)]
+        pub struct $lines {
+            $(pub $key: $number,)*
+        }
+
+        impl $lines {
+            /// How many lines.
+            pub const LINES: usize = [$(stringify!($key)),*].len();
+
+            /// Their keys, in order.
+            pub const KEYS: [&'static str; $lines::LINES] = [$(stringify!($key)),*];
+
+            pub const fn from_numbers([$($key),*]: [$number; $lines::LINES]) -> $lines {
+                $lines { $($key),* }
+            }
+
+            pub const fn numbers(&self) -> [$number; $lines::LINES] {
+                [$(self.$key),*]
+            }
+        }
+    };
+}
+
+macro_rules! define_sheet {
+    ($($key:ident $place:ident [$least:literal, $greatest:literal])*) => {
+        numbers_of_lines! {
+            /// A sheet: lengths in 0.01 mm, fyb in N/mm², gm0 in thousandths, allow in
+            /// 0.01 mm²; form 0 for C, 1 for Z.
+            Sheet of u64: $($key)*
+        }
+
+        /// Places of the numbers in a sheet. A line's number is its place and one.
+        pub mod place {
+            #[allow(clippy::upper_case_acronyms)]
+            enum Place { $($place),* }
+            $(pub const $place: usize = Place::$place as usize;)*
+        }
+
+        /// Least and greatest value of each line.
+        pub const RANGES: [(u64, u64); Sheet::LINES] = [$(($least, $greatest)),*];
+    };
+}
+
+with_sheet_lines!(define_sheet);
+
+numbers_of_lines! {
+    /// The printed figures.
+    Figures of i128: area axial chi1 chi2 shiftlo shifthi
+}
+
+/// The lines of a certificate: those of its sheet, then the figures.
+pub const CERTIFICATE_LINES: usize = Sheet::LINES + Figures::LINES;
+
+/// A sheet's numbers in the order of its lines, which may be out of range.
+pub type Numbers = [u64; Sheet::LINES];
+
+/// A certificate's figures in the order of its lines.
+pub type FigureNumbers = [i128; Figures::LINES];
 
 impl Sheet {
-    pub fn from_numbers(numbers: [u64; 12]) -> Sheet {
-        let [form, h, b1, b2, c, r, tnom, t, fyb, gm0, rounds, allow] = numbers;
-        Sheet {
-            form,
-            h,
-            b1,
-            b2,
-            c,
-            r,
-            tnom,
-            t,
-            fyb,
-            gm0,
-            rounds,
-            allow,
-        }
-    }
-
-    pub fn numbers(&self) -> [u64; 12] {
-        [
-            self.form,
-            self.h,
-            self.b1,
-            self.b2,
-            self.c,
-            self.r,
-            self.tnom,
-            self.t,
-            self.fyb,
-            self.gm0,
-            self.rounds,
-            self.allow,
-        ]
-    }
-
     pub fn is_z(&self) -> bool {
         self.form == 1
+    }
+
+    /// Its scale is so many times 1,000,000.
+    pub fn fineness(&self) -> i128 {
+        1
+    }
+
+    /// The scale of its working.
+    pub fn scale(&self) -> Scale {
+        self.finer_scale(1)
+    }
+
+    /// m times its scale.
+    pub fn finer_scale(&self, m: i128) -> Scale {
+        Scale::multiple(m * self.fineness())
+    }
+
+    /// The sheet with another number at a place.
+    pub fn with_number(&self, place: usize, number: u64) -> Sheet {
+        let mut numbers = self.numbers();
+        numbers[place] = number;
+        Sheet::from_numbers(numbers)
+    }
+
+    /// The lengths with their keys, in order.
+    pub fn lengths(&self) -> Vec<(&'static str, u64)> {
+        let lines = Sheet::KEYS.into_iter().zip(self.numbers());
+        lines.take(place::T + 1).skip(place::H).collect()
     }
 }
 
@@ -111,17 +132,25 @@ pub struct Refusal {
     pub line: u64,
 }
 
-/// A question about a line.
-pub(crate) fn ask(met: bool, number: u64, line: u64) -> Result<(), Refusal> {
+impl Refusal {
+    /// By a question, about the line at a place.
+    pub(crate) fn at(number: u64, place: usize) -> Refusal {
+        let line = place as u64 + 1;
+        Refusal { number, line }
+    }
+}
+
+/// A question about the line at a place.
+pub(crate) fn ask(met: bool, number: u64, place: usize) -> Result<(), Refusal> {
     if met {
         Ok(())
     } else {
-        Err(Refusal { number, line })
+        Err(Refusal::at(number, place))
     }
 }
 
 /// Questions 2 to 10 on plain numbers; the first that is not met decides.
-pub fn ask_before_working(numbers: [u64; 12]) -> Result<Sheet, Refusal> {
+pub fn ask_before_working(numbers: Numbers) -> Result<Sheet, Refusal> {
     ask_ranges(&numbers)?;
     let sheet = Sheet::from_numbers(numbers);
     ask_thickness(&sheet)?;
@@ -136,22 +165,28 @@ pub fn ask_before_working(numbers: [u64; 12]) -> Result<Sheet, Refusal> {
 }
 
 /// Question 2: is every value in range?
-fn ask_ranges(numbers: &[u64; 12]) -> Result<(), Refusal> {
-    for (i, (least, greatest)) in RANGES.into_iter().enumerate() {
-        ask((least..=greatest).contains(&numbers[i]), 2, i as u64 + 1)?;
+fn ask_ranges(numbers: &Numbers) -> Result<(), Refusal> {
+    for (place, number) in numbers.iter().enumerate() {
+        ask(is_in_range(place, *number), 2, place)?;
     }
     Ok(())
 }
 
-/// Question 3: t ≤ tnom?
-fn ask_thickness(sheet: &Sheet) -> Result<(), Refusal> {
-    ask(sheet.t <= sheet.tnom, 3, 8)
+/// Whether the line at a place may have the value.
+fn is_in_range(place: usize, value: u64) -> bool {
+    let (least, greatest) = RANGES[place];
+    (least..=greatest).contains(&value)
 }
 
-/// The first flange of which the claim is not true gives line 3 or 4.
+/// Question 3: t ≤ tnom?
+fn ask_thickness(sheet: &Sheet) -> Result<(), Refusal> {
+    ask(sheet.t <= sheet.tnom, 3, place::T)
+}
+
+/// The first flange of which the claim is not true gives its line.
 fn ask_flanges(sheet: &Sheet, number: u64, claim: impl Fn(u64) -> bool) -> Result<(), Refusal> {
-    ask(claim(sheet.b1), number, 3)?;
-    ask(claim(sheet.b2), number, 4)
+    ask(claim(sheet.b1), number, place::B1)?;
+    ask(claim(sheet.b2), number, place::B2)
 }
 
 /// Question 4: b ≤ 60t?
@@ -161,12 +196,12 @@ fn ask_flange_slenderness(sheet: &Sheet) -> Result<(), Refusal> {
 
 /// Question 5: c ≤ 50t?
 fn ask_lip_slenderness(sheet: &Sheet) -> Result<(), Refusal> {
-    ask(sheet.c <= 50 * sheet.t, 5, 5)
+    ask(sheet.c <= 50 * sheet.t, 5, place::C)
 }
 
 /// Question 6: h ≤ 500t?
 fn ask_web_slenderness(sheet: &Sheet) -> Result<(), Refusal> {
-    ask(sheet.h <= 500 * sheet.t, 6, 2)
+    ask(sheet.h <= 500 * sheet.t, 6, place::H)
 }
 
 /// Question 7: b ≤ 5c and 5c ≤ 3b?
@@ -178,7 +213,7 @@ fn ask_lip_proportion(sheet: &Sheet) -> Result<(), Refusal> {
 fn ask_radius(sheet: &Sheet) -> Result<(), Refusal> {
     let small_beside = |b: u64| 10 * sheet.r <= b - sheet.tnom;
     let small = sheet.r <= 5 * sheet.t && small_beside(sheet.b1) && small_beside(sheet.b2);
-    ask(small, 8, 6)
+    ask(small, 8, place::R)
 }
 
 /// Question 9: 5cp ≤ 3bp? Doubled, since cp has half hundredths.
@@ -189,18 +224,7 @@ fn ask_midline_proportion(sheet: &Sheet) -> Result<(), Refusal> {
 
 /// Question 10: form Z, or 2c ≤ h?
 fn ask_room_for_lips(sheet: &Sheet) -> Result<(), Refusal> {
-    ask(sheet.is_z() || 2 * sheet.c <= sheet.h, 10, 5)
-}
-
-/// The six printed figures.
-#[derive(Clone, Copy, Debug, PartialEq, Eq)]
-pub struct Figures {
-    pub area: i128,
-    pub axial: i128,
-    pub chi1: i128,
-    pub chi2: i128,
-    pub shiftlo: i128,
-    pub shifthi: i128,
+    ask(sheet.is_z() || 2 * sheet.c <= sheet.h, 10, place::C)
 }
 
 impl Figures {
@@ -218,29 +242,6 @@ impl Figures {
             shifthi: divide_up(working.shift.hi * 100, s),
         }
     }
-
-    pub fn from_numbers(numbers: [i128; 6]) -> Figures {
-        let [area, axial, chi1, chi2, shiftlo, shifthi] = numbers;
-        Figures {
-            area,
-            axial,
-            chi1,
-            chi2,
-            shiftlo,
-            shifthi,
-        }
-    }
-
-    pub fn numbers(&self) -> [i128; 6] {
-        [
-            self.area,
-            self.axial,
-            self.chi1,
-            self.chi2,
-            self.shiftlo,
-            self.shifthi,
-        ]
-    }
 }
 
 /// One end of the area × fyb ÷ partial factor, exact, in newtons: a dividend
@@ -253,7 +254,7 @@ pub fn axial_resistance(sheet: &Sheet, area_end: i128, scale: Scale) -> (i128, i
 /// Question 11: is the area's upper end at most area + allow?
 pub fn ask_allowance(sheet: &Sheet, working: &Working, figures: &Figures) -> Result<(), Refusal> {
     let bound = (figures.area + sheet.allow as i128) * working.scale.units();
-    ask(working.area.hi * 100 <= bound, 11, 12)
+    ask(working.area.hi * 100 <= bound, 11, place::ALLOW)
 }
 
 /// A sheet that meets questions 2 to 11, with its working and figures.
@@ -265,7 +266,7 @@ pub struct Accepted {
 }
 
 /// Questions 2 to 11 in order, worked at our scale.
-pub fn ask_numbers(numbers: [u64; 12]) -> Result<Accepted, Refusal> {
+pub fn ask_numbers(numbers: Numbers) -> Result<Accepted, Refusal> {
     let sheet = ask_before_working(numbers)?;
     let working = worked(&sheet);
     let figures = Figures::of(&sheet, &working);

@@ -27,8 +27,8 @@ const COLUMNS: [&str; 7] = [
     "unit",
 ];
 
-/// By the power of the millimetre.
-const UNITS: [&str; 5] = ["none", "mm", "mm²", "mm³", "mm⁴"];
+/// The last column, by the power of the millimetre.
+pub const UNITS: [&str; 5] = ["none", "mm", "mm²", "mm³", "mm⁴"];
 
 impl Steps {
     pub fn new(scale: Scale) -> Steps {

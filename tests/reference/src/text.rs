@@ -1,21 +1,28 @@
 //! Sheets and certificates as text: questions 1, 12 and 13 (document 01,
 //! "Sheet and certificate", "The questions, in this order").
 
-use crate::sheet::{ask, ask_numbers, Accepted, Refusal};
-
-/// Keys of a sheet, in order.
-pub const SHEET_KEYS: [&str; 12] = [
-    "form", "h", "b1", "b2", "c", "r", "tnom", "t", "fyb", "gm0", "rounds", "allow",
-];
-
-/// Keys of a certificate's further lines, in order.
-pub const FIGURE_KEYS: [&str; 6] = ["area", "axial", "chi1", "chi2", "shiftlo", "shifthi"];
+use crate::sheet::{
+    ask, ask_numbers, Accepted, FigureNumbers, Figures, Numbers, Refusal, Sheet, CERTIFICATE_LINES,
+};
 
 /// No sheet that is spelt right is longer: each number has at most ten digits.
 pub const LONGEST_SHEET: usize = 168;
 
 /// No certificate is longer: a shift may have a minus, too.
 pub const LONGEST_CERTIFICATE: usize = 273;
+
+/// A certificate's line that has the key; a sheet's lines are the first of them.
+pub fn line_of(key: &str) -> u64 {
+    let mut keys = Sheet::KEYS.iter().chain(&Figures::KEYS);
+    keys.position(|&its| its == key).expect("a key") as u64 + 1
+}
+
+/// The line behind the last of a sheet, or of a certificate.
+pub const BEHIND_SHEET: u64 = Sheet::LINES as u64 + 1;
+pub const BEHIND_CERTIFICATE: u64 = CERTIFICATE_LINES as u64 + 1;
+
+/// The refusals have the numbers from 1 to this.
+pub const REFUSALS: usize = 13;
 
 /// What a call returns, as include/honemagenta.h has it: 0 or the number of the
 /// refusal, a line and a length.
@@ -71,9 +78,15 @@ fn form_of(value: &[u8]) -> Option<u64> {
     }
 }
 
+/// A number has so many digits at most.
+const DIGITS: usize = 10;
+
+/// The greatest number that can be spelt.
+pub const MOST_SPELT: u64 = 10_u64.pow(DIGITS as u32) - 1;
+
 /// 1 to 10 digits, no leading zero but in 0 itself.
 fn number_of(value: &[u8]) -> Option<u64> {
-    if value.is_empty() || value.len() > 10 || (value[0] == b'0' && value.len() > 1) {
+    if value.is_empty() || value.len() > DIGITS || (value[0] == b'0' && value.len() > 1) {
         return None;
     }
     let mut number = 0;
@@ -96,76 +109,75 @@ fn shift_of(value: &[u8]) -> Option<i128> {
     }
 }
 
-fn may_have_minus(key: &str) -> bool {
+pub(crate) fn may_have_minus(key: &str) -> bool {
     key == "shiftlo" || key == "shifthi"
 }
 
-fn bad_line(line: usize) -> Refusal {
-    Refusal {
-        number: 1,
-        line: line as u64,
-    }
+fn bad_line(place: usize) -> Refusal {
+    Refusal::at(1, place)
 }
 
-/// Lines 1 to 12.
-fn sheet_lines(reader: &mut Reader) -> Result<[u64; 12], Refusal> {
-    let mut numbers = [0; 12];
-    for (i, key) in SHEET_KEYS.iter().enumerate() {
+/// The lines of a sheet.
+fn sheet_lines(reader: &mut Reader) -> Result<Numbers, Refusal> {
+    let mut numbers = [0; Sheet::LINES];
+    for (i, key) in Sheet::KEYS.iter().enumerate() {
         let read = if i == 0 { form_of } else { number_of };
-        numbers[i] = reader.value(key).and_then(read).ok_or(bad_line(i + 1))?;
+        numbers[i] = reader.value(key).and_then(read).ok_or(bad_line(i))?;
     }
     Ok(numbers)
 }
 
-/// Lines 13 to 18.
-fn figure_lines(reader: &mut Reader) -> Result<[i128; 6], Refusal> {
-    let mut numbers = [0; 6];
-    for (i, key) in FIGURE_KEYS.iter().enumerate() {
-        let value = reader.value(key).ok_or(bad_line(i + 13))?;
+/// The lines behind the sheet's.
+fn figure_lines(reader: &mut Reader) -> Result<FigureNumbers, Refusal> {
+    let mut numbers = [0; Figures::LINES];
+    for (i, key) in Figures::KEYS.iter().enumerate() {
+        let bad = bad_line(Sheet::LINES + i);
+        let value = reader.value(key).ok_or(bad)?;
         let number = if may_have_minus(key) {
             shift_of(value)
         } else {
             number_of(value).map(i128::from)
         };
-        numbers[i] = number.ok_or(bad_line(i + 13))?;
+        numbers[i] = number.ok_or(bad)?;
     }
     Ok(numbers)
 }
 
-fn nothing_behind(reader: &Reader, line: u64) -> Result<(), Refusal> {
-    ask(reader.rest.is_empty(), 1, line)
+/// Nothing behind so many lines.
+fn nothing_behind(reader: &Reader, lines: usize) -> Result<(), Refusal> {
+    ask(reader.rest.is_empty(), 1, lines)
 }
 
 /// Question 1 on a sheet.
-pub fn read_sheet(text: &[u8]) -> Result<[u64; 12], Refusal> {
+pub fn read_sheet(text: &[u8]) -> Result<Numbers, Refusal> {
     let mut reader = Reader { rest: text };
     let numbers = sheet_lines(&mut reader)?;
-    nothing_behind(&reader, 13)?;
+    nothing_behind(&reader, Sheet::LINES)?;
     Ok(numbers)
 }
 
-/// Question 1 on a certificate.
-pub fn read_certificate(text: &[u8]) -> Result<([u64; 12], [i128; 6]), Refusal> {
+/// Question 1 on a certificate: the sheet and the figures that it shows.
+pub fn read_certificate(text: &[u8]) -> Result<(Sheet, Figures), Refusal> {
     let mut reader = Reader { rest: text };
     let numbers = sheet_lines(&mut reader)?;
     let figures = figure_lines(&mut reader)?;
-    nothing_behind(&reader, 19)?;
-    Ok((numbers, figures))
+    nothing_behind(&reader, CERTIFICATE_LINES)?;
+    Ok((Sheet::from_numbers(numbers), Figures::from_numbers(figures)))
 }
 
-/// The twelve lines of a sheet.
-pub fn sheet_text(numbers: [u64; 12]) -> String {
+/// The lines of a sheet, of any numbers.
+pub fn sheet_text(numbers: Numbers) -> String {
     let mut text = format!("form={}\n", if numbers[0] == 1 { "Z" } else { "C" });
-    for (key, number) in SHEET_KEYS.iter().zip(numbers).skip(1) {
+    for (key, number) in Sheet::KEYS.iter().zip(numbers).skip(1) {
         text += &format!("{key}={number}\n");
     }
     text
 }
 
-/// The eighteen lines of a certificate, of any numbers.
-pub fn certificate_lines(numbers: [u64; 12], figures: [i128; 6]) -> String {
+/// The lines of a certificate, of any numbers.
+pub fn certificate_lines(numbers: Numbers, figures: FigureNumbers) -> String {
     let mut text = sheet_text(numbers);
-    for (key, figure) in FIGURE_KEYS.iter().zip(figures) {
+    for (key, figure) in Figures::KEYS.iter().zip(figures) {
         text += &format!("{key}={figure}\n");
     }
     text
@@ -197,27 +209,27 @@ pub fn write_from_text(sheet: &[u8], buffer: &mut [u8]) -> Answer {
     }
 }
 
-/// The certificate of twelve numbers, into the buffer; the first question asked is
+/// The certificate of a sheet's numbers, into the buffer; the first question asked is
 /// the second.
-pub fn write_from_numbers(numbers: [u64; 12], buffer: &mut [u8]) -> Answer {
+pub fn write_from_numbers(numbers: Numbers, buffer: &mut [u8]) -> Answer {
     match ask_numbers(numbers) {
         Ok(accepted) => write(&accepted, buffer),
         Err(refusal) => Answer::refused(refusal),
     }
 }
 
-/// Question 13: do lines 13 to 18 agree with the working?
-fn ask_agreement(accepted: &Accepted, figures: [i128; 6]) -> Result<(), Refusal> {
+/// Question 13: do the figures agree with the working?
+fn ask_agreement(accepted: &Accepted, shown: Figures) -> Result<(), Refusal> {
     let worked = accepted.figures.numbers();
-    for (i, figure) in figures.into_iter().enumerate() {
-        ask(figure == worked[i], 13, i as u64 + 13)?;
+    for (i, figure) in shown.numbers().into_iter().enumerate() {
+        ask(figure == worked[i], 13, Sheet::LINES + i)?;
     }
     Ok(())
 }
 
 fn ask_certificate(certificate: &[u8]) -> Result<(), Refusal> {
-    let (numbers, figures) = read_certificate(certificate)?;
-    let accepted = ask_numbers(numbers)?;
+    let (sheet, figures) = read_certificate(certificate)?;
+    let accepted = ask_numbers(sheet.numbers())?;
     ask_agreement(&accepted, figures)
 }
 

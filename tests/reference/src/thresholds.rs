@@ -5,7 +5,9 @@
 use crate::chance::Chance;
 use crate::generate::crossing;
 use crate::pair::Pair;
-use crate::random::{meets_questions, random_section, Field};
+use crate::random::{meets_questions, random_section, FLANGES};
+use crate::rules::{thousandths, FACTOR_JUMPS_AT, FACTOR_ONE_TO, LIP_HALF_TO, OUTSTAND, SUPPORTED};
+use crate::sheet::place::{C, H};
 use crate::sheet::{Figures, Sheet};
 use crate::working::{worked, Round, Stiffener, Working};
 
@@ -18,7 +20,7 @@ pub type AtDistances<T> = [[T; 5]; 2];
 /// A value at which a rule changes.
 pub struct Threshold {
     pub name: &'static str,
-    /// In units.
+    /// In thousandths.
     value: i128,
     /// The ends and distances that occur.
     pub occur: AtDistances<bool>,
@@ -29,9 +31,9 @@ pub struct Threshold {
 enum Compared {
     /// u of the web.
     Web,
-    /// A pair of both stiffeners in the first working, and the number of the sheet
+    /// A pair of both stiffeners in the first working, and the place of the number
     /// that is moved to find it near the threshold, by the flange.
-    First(fn(&Stiffener) -> Pair, fn(usize) -> Field),
+    First(fn(&Stiffener) -> Pair, fn(usize) -> usize),
     /// A pair of both stiffeners in every refining round.
     Refined(fn(&Stiffener) -> Pair),
     /// q of both lips.
@@ -59,17 +61,17 @@ const UPPER: AtDistances<bool> = [[false; 5], [true; 5]];
 
 #[rustfmt::skip] // a row to a line
 pub const THRESHOLDS: [Threshold; 11] = [
-    at("web u at 0.673",                        673_000, ALL,       Web),
-    at("flange u at 0.673",                     673_000, ALL,       First(|s| s.flange.u, Field::of_flange)),
-    at("flange u at 0.673, refining",           673_000, ALL,       Refined(|s| s.flange.u)),
-    at("lip u at 0.748",                        748_000, ALL,       First(|s| s.lip.u, |_| Field::C)),
-    at("lip u at 0.748, refining",              748_000, ALL,       Refined(|s| s.lip.u)),
-    at("q at 0.35",                             350_000, OF_RATIO,  Ratio),
-    at("ud at 0.65",                            650_000, OF_FACTOR, First(|s| s.ud, |_| Field::H)),
-    at("ud at 0.65, refining",                  650_000, OF_FACTOR, Refined(|s| s.ud)),
-    at("ud at 1.38",                          1_380_000, ALL,       First(|s| s.ud, |_| Field::H)),
-    at("ud at 1.38, refining",                1_380_000, ALL,       Refined(|s| s.ud)),
-    at("area at area + allow (question 11)",          0, UPPER,     Area),
+    at("web u at 0.673",                     SUPPORTED.full_to, ALL,       Web),
+    at("flange u at 0.673",                  SUPPORTED.full_to, ALL,       First(|s| s.flange.u, |i| FLANGES[i])),
+    at("flange u at 0.673, refining",        SUPPORTED.full_to, ALL,       Refined(|s| s.flange.u)),
+    at("lip u at 0.748",                     OUTSTAND.full_to,  ALL,       First(|s| s.lip.u, |_| C)),
+    at("lip u at 0.748, refining",           OUTSTAND.full_to,  ALL,       Refined(|s| s.lip.u)),
+    at("q at 0.35",                          LIP_HALF_TO,       OF_RATIO,  Ratio),
+    at("ud at 0.65",                         FACTOR_ONE_TO,     OF_FACTOR, First(|s| s.ud, |_| H)),
+    at("ud at 0.65, refining",               FACTOR_ONE_TO,     OF_FACTOR, Refined(|s| s.ud)),
+    at("ud at 1.38",                         FACTOR_JUMPS_AT,   ALL,       First(|s| s.ud, |_| H)),
+    at("ud at 1.38, refining",               FACTOR_JUMPS_AT,   ALL,       Refined(|s| s.ud)),
+    at("area at area + allow (question 11)", 0,                 UPPER,     Area),
 ];
 
 const fn at(
@@ -96,16 +98,21 @@ impl Threshold {
             Ratio => working.lip_ratios.map(|lip| lip.q).to_vec(),
             Area => return vec![[i128::MAX, past_allowance(sheet, working)]],
         };
-        let distance = |pair: Pair| [pair.lo - self.value, pair.hi - self.value];
-        pairs.into_iter().map(distance).collect()
+        pairs.into_iter().map(|pair| self.from(pair)).collect()
+    }
+
+    /// How far the ends of a pair lie from it.
+    pub fn from(&self, pair: Pair) -> [i128; 2] {
+        let value = thousandths(pair.scale, self.value);
+        [pair.lo - value, pair.hi - value]
     }
 
     /// Sheets that may lie near it.
     fn candidates(&self, chance: &mut Chance) -> Option<Vec<Sheet>> {
         match self.compared {
-            Web => moved(self, chance, false, |_| Field::H),
-            First(_, field) => moved(self, chance, false, field),
-            Refined(_) => moved(self, chance, true, |_| Field::H),
+            Web => moved(self, chance, false, |_| H),
+            First(_, place) => moved(self, chance, false, place),
+            Refined(_) => moved(self, chance, true, |_| H),
             Ratio => ratio_near(chance),
             Area => allowance_near(chance),
         }
@@ -126,13 +133,13 @@ fn mostly_accepted(chance: &mut Chance) -> Option<Sheet> {
     Some(sheet)
 }
 
-/// The two neighbours in a field between which an end of a pair crosses the
+/// The two neighbours, by the number at a place, between which an end of a pair crosses the
 /// threshold. Without refining, the rounds do not matter and are left out.
 fn moved(
     threshold: &Threshold,
     chance: &mut Chance,
     refining: bool,
-    field: fn(usize) -> Field,
+    place: fn(usize) -> usize,
 ) -> Option<Vec<Sheet>> {
     let mut sheet = mostly_accepted(chance)?;
     let rounds = sheet.rounds;
@@ -143,7 +150,7 @@ fn moved(
         let distances = threshold.distances(&sheet, w);
         distances[pair % distances.len()][end]
     };
-    let mut found = crossing(&sheet, field(pair), value, 0)?.to_vec();
+    let mut found = crossing(&sheet, place(pair), value, 0)?.to_vec();
     for sheet in &mut found {
         sheet.rounds = sheet.rounds.max(rounds);
     }
@@ -167,7 +174,12 @@ fn ratio_near(chance: &mut Chance) -> Option<Vec<Sheet>> {
 /// How far the area's upper end lies past area + allow.
 fn past_allowance(sheet: &Sheet, working: &Working) -> i128 {
     let area = Figures::of(sheet, working).area;
-    working.area.hi - (area + sheet.allow as i128) * (working.scale.units() / 100)
+    working.area.hi - (area + sheet.allow as i128) * hundredth(working)
+}
+
+/// 0.01 mm² in units.
+fn hundredth(working: &Working) -> i128 {
+    working.scale.units() / 100
 }
 
 /// A section whose area ends near a whole hundredth, and the allowance to that.
@@ -176,11 +188,24 @@ fn allowance_near(chance: &mut Chance) -> Option<Vec<Sheet>> {
     sheet.rounds = chance.one_of(&[0, 0, 0, sheet.rounds]);
     sheet.allow = 0;
     let working = worked(&sheet);
-    let hundredth = working.scale.units() / 100;
+    let hundredth = hundredth(&working);
     let nearest = (past_allowance(&sheet, &working) + hundredth / 2) / hundredth;
     sheet.allow = nearest as u64;
     let near = past_allowance(&sheet, &working).abs() <= NEAR;
     (near && meets_questions(&sheet)).then_some(vec![sheet])
+}
+
+/// Which ends lie at which distance, of pairs whose ends lie so far away.
+pub fn shown(distances: impl IntoIterator<Item = [i128; 2]>) -> AtDistances<bool> {
+    let mut shown = AtDistances::default();
+    for pair in distances {
+        for (shown, distance) in shown.iter_mut().zip(pair) {
+            if distance.abs() <= NEAR {
+                shown[(distance + NEAR) as usize] = true;
+            }
+        }
+    }
+    shown
 }
 
 /// How many sheets lie near a threshold, and how many have an end at a distance.
@@ -201,13 +226,12 @@ impl Near {
 
     /// Counts a sheet, once for each end and distance that its pairs show.
     fn count(&mut self, threshold: &Threshold, sheet: &Sheet, working: &Working) {
-        let distances = threshold.distances(sheet, working);
-        let before = self.at_distances;
-        for (end, distance) in (0..2).flat_map(|end| (-NEAR..=NEAR).map(move |d| (end, d))) {
-            let shown = distances.iter().any(|pair| pair[end] == distance);
-            self.at_distances[end][(distance + NEAR) as usize] += u64::from(shown);
+        let shown = shown(threshold.distances(sheet, working));
+        let counts = self.at_distances.iter_mut().flatten();
+        for (count, &shown) in counts.zip(shown.as_flattened()) {
+            *count += u64::from(shown);
         }
-        self.sheets += u64::from(self.at_distances != before);
+        self.sheets += u64::from(shown.as_flattened().contains(&true));
     }
 
     /// The fewest sheets at an end and a distance that occur.
@@ -259,5 +283,5 @@ pub fn kept() -> Vec<Sheet> {
 fn sheet_of(line: &str) -> Sheet {
     let words = line.split(' ').map(|word| word.parse().expect("a number"));
     let numbers: Vec<u64> = words.collect();
-    Sheet::from_numbers(numbers.try_into().expect("twelve numbers"))
+    Sheet::from_numbers(numbers.try_into().expect("a sheet's numbers"))
 }

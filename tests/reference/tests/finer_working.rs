@@ -1,15 +1,12 @@
 //! Demand 3 and the nesting of every pair, on the generated sections.
 
-use reference::finer::{failures, inequalities};
+use reference::finer::{failures, inequalities, MULTIPLES};
 use reference::generate::{sections, worked_sections};
 use reference::kinds::{count, passes_allowance, KINDS};
 use reference::named::SHEET_B;
-use reference::pair::Scale;
 use reference::sheet::{ask_numbers, Figures, Sheet};
 use reference::text::{check, read_certificate, write_from_numbers, LONGEST_CERTIFICATE};
 use reference::working::{worked, Working};
-
-const MULTIPLES: [i128; 4] = [2, 3, 10, 1000];
 
 /// The sheet and figures that the written certificate shows.
 fn written(sheet: &Sheet) -> Option<(Sheet, Figures)> {
@@ -20,8 +17,7 @@ fn written(sheet: &Sheet) -> Option<(Sheet, Figures)> {
     }
     let certificate = &buffer[..answer.length as usize];
     assert_eq!(check(certificate), answer);
-    let (numbers, figures) = read_certificate(certificate).expect("a certificate");
-    Some((Sheet::from_numbers(numbers), Figures::from_numbers(figures)))
+    Some(read_certificate(certificate).expect("a certificate"))
 }
 
 #[test]
@@ -48,7 +44,7 @@ fn finer_pairs_lie_inside() {
     for sheet in sections() {
         let ours = worked(&sheet).named();
         for m in MULTIPLES {
-            let finer = Working::of(&sheet, Scale::multiple(m)).named();
+            let finer = Working::of(&sheet, sheet.finer_scale(m)).named();
             for ((name, outer), (_, inner)) in ours.iter().zip(&finer) {
                 let inside = m * outer.lo <= inner.lo && inner.hi <= m * outer.hi;
                 assert!(inside, "{name} at m = {m} of {sheet:?}");

@@ -3,7 +3,8 @@
 use reference::cases::{each_line_changed, longest_certificate, longest_sheet};
 use reference::repository::file_text;
 use reference::text::{
-    printed, printed_check, read_certificate, read_sheet, LONGEST_CERTIFICATE, LONGEST_SHEET,
+    printed, printed_check, read_certificate, read_sheet, BEHIND_CERTIFICATE, BEHIND_SHEET,
+    LONGEST_CERTIFICATE, LONGEST_SHEET,
 };
 
 /// Asserts that a text is spelt right and so long, and that no line of it may
@@ -32,14 +33,13 @@ fn the_longest_texts_are_so_long() {
 #[test]
 fn the_longest_texts_are_refused() {
     let (sheet, certificate) = (longest_sheet(), longest_certificate());
-    assert_eq!(printed(sheet.as_bytes()), "refused=2\nline=2\n");
-    assert_eq!(printed_check(certificate.as_bytes()), "refused=2\nline=2\n");
+    let refused = |number: u64, line: u64| format!("refused={number}\nline={line}\n");
+    assert_eq!(printed(sheet.as_bytes()), refused(2, 2));
+    assert_eq!(printed_check(certificate.as_bytes()), refused(2, 2));
     let (sheet, certificate) = (sheet + "\n", certificate + "\n");
-    assert_eq!(printed(sheet.as_bytes()), "refused=1\nline=13\n");
-    assert_eq!(
-        printed_check(certificate.as_bytes()),
-        "refused=1\nline=19\n"
-    );
+    assert_eq!(printed(sheet.as_bytes()), refused(1, BEHIND_SHEET));
+    let checked = printed_check(certificate.as_bytes());
+    assert_eq!(checked, refused(1, BEHIND_CERTIFICATE));
 }
 
 /// The number behind the words with which one line of a file begins.
@@ -63,12 +63,12 @@ fn the_constants_of_header_code_and_example_are_the_same() {
             LONGEST_CERTIFICATE,
         ),
         (
-            "crates/text/src/lib.rt",
+            "crates/certificate/src/lib.rt",
             "pub const LONGEST_CERTIFICATE: usize = ",
             LONGEST_CERTIFICATE,
         ),
         (
-            "crates/text/src/lib.rt",
+            "crates/certificate/src/lib.rt",
             "pub const LONGEST_SHEET: usize = ",
             LONGEST_SHEET,
         ),

@@ -5,7 +5,7 @@ use reference::named::{LIP_LONG_ON_MID_LINES, SHEET_A, SHEET_B};
 use reference::pair::{Pair, Scale};
 use reference::rules::{lip_coefficient, thickness_factor, OUTSTAND, SUPPORTED};
 use reference::sheet::{ask_numbers, Sheet};
-use reference::text::{printed, sheet_text, write_from_text};
+use reference::text::{printed, sheet_text, write_from_text, LONGEST_CERTIFICATE};
 
 fn scale() -> Scale {
     Scale::multiple(1)
@@ -83,7 +83,7 @@ fn case_9_sheet_a() {
     let certificate = format!("{TEXT_A}{FIGURES_A}");
     assert_eq!(sheet_text(SHEET_A.numbers()), TEXT_A);
     assert_eq!(printed(TEXT_A.as_bytes()), certificate);
-    let mut buffer = [7; 300];
+    let mut buffer = [7; LONGEST_CERTIFICATE];
     let answer = write_from_text(TEXT_A.as_bytes(), &mut buffer);
     let length = certificate.len();
     assert_eq!((answer.refusal, answer.line), (0, 0));

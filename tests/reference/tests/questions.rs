@@ -2,10 +2,11 @@
 
 use reference::cases::with;
 use reference::named::{LIP_LONG_ON_MID_LINES, SHEET_A, SHEET_B};
-use reference::sheet::{ask_numbers, Sheet, RANGES};
+use reference::sheet::place::ALLOW;
+use reference::sheet::{ask_numbers, Figures, Sheet, CERTIFICATE_LINES, RANGES};
 use reference::text::{
-    check, printed, sheet_text, write_from_numbers, write_from_text, Answer, FIGURE_KEYS,
-    LONGEST_CERTIFICATE,
+    check, line_of, printed, sheet_text, write_from_numbers, write_from_text, Answer,
+    BEHIND_CERTIFICATE, BEHIND_SHEET, LONGEST_CERTIFICATE,
 };
 
 fn asked(sheet: Sheet) -> (u64, u64) {
@@ -55,11 +56,10 @@ fn question_2_names_the_first_line_out_of_range() {
             outside.push(least - 1);
         }
         for value in outside {
-            let mut numbers = SHEET_B.numbers();
-            numbers[i] = value;
-            assert_eq!(asked(Sheet::from_numbers(numbers)), (2, i as u64 + 1));
-            numbers[11] = 1001;
-            assert_eq!(asked(Sheet::from_numbers(numbers)), (2, i as u64 + 1));
+            let sheet = SHEET_B.with_number(i, value);
+            assert_eq!(asked(sheet), (2, i as u64 + 1));
+            let allow = sheet.with_number(ALLOW, RANGES[ALLOW].1 + 1);
+            assert_eq!(asked(allow), (2, i as u64 + 1));
         }
     }
 }
@@ -142,9 +142,9 @@ fn question_1_names_the_first_bad_line() {
         assert_eq!(refused(&before), here);
         assert_eq!(refused(&(before + line.trim_end())), here);
     }
-    assert_eq!(refused(&format!("{b}\n")), (1, 13));
-    assert_eq!(refused(&format!("{b}x")), (1, 13));
-    assert_eq!(refused(&certificate_b()), (1, 13));
+    assert_eq!(refused(&format!("{b}\n")), (1, BEHIND_SHEET));
+    assert_eq!(refused(&format!("{b}x")), (1, BEHIND_SHEET));
+    assert_eq!(refused(&certificate_b()), (1, BEHIND_SHEET));
     for form in ["c", "CZ", "0", "1", ""] {
         let text = b.replace("form=C", &format!("form={form}"));
         assert_eq!(refused(&text), (1, 1));
@@ -168,17 +168,17 @@ fn text_goes_on_with_the_second_question() {
 fn question_12_gives_the_length_needed() {
     let certificate = certificate_b();
     let needed = certificate.len();
-    let told = |answer: Answer| (answer.refusal, answer.line, answer.length as usize);
+    let parts = |answer: Answer| (answer.refusal, answer.line, answer.length as usize);
     for room in [0, 1, needed - 1] {
         let mut buffer = vec![9; room];
         let answer = write_from_numbers(SHEET_B.numbers(), &mut buffer);
-        assert_eq!(told(answer), (12, 0, needed));
+        assert_eq!(parts(answer), (12, 0, needed));
         assert!(buffer.iter().all(|&byte| byte == 9));
     }
     for room in [needed, needed + 1] {
         let mut buffer = vec![9; room];
         let answer = write_from_numbers(SHEET_B.numbers(), &mut buffer);
-        assert_eq!(told(answer), (0, 0, needed));
+        assert_eq!(parts(answer), (0, 0, needed));
         assert_eq!(&buffer[..needed], certificate.as_bytes());
         assert!(buffer[needed..].iter().all(|&byte| byte == 9));
     }
@@ -195,35 +195,39 @@ fn checking_passes_what_was_written() {
 #[test]
 fn question_1_on_certificates() {
     let certificate = certificate_b();
-    assert_eq!(checked(&text_b()), (1, 13));
-    assert_eq!(checked(&format!("{certificate}\n")), (1, 19));
-    assert_eq!(checked(&certificate[..certificate.len() - 1]), (1, 18));
-    for (right, wrong, line) in [
-        ("area=", "area=-", 13),
-        ("chi1=", "chi1=0", 15),
-        ("shiftlo=142", "shiftlo=-0", 17),
-        ("shifthi=143", "shifthi=-0143", 18),
-        ("shifthi=143", "shifthi=--143", 18),
-        ("shifthi=143", "shifthi=-", 18),
+    assert_eq!(checked(&text_b()), (1, BEHIND_SHEET));
+    let longer = format!("{certificate}\n");
+    assert_eq!(checked(&longer), (1, BEHIND_CERTIFICATE));
+    let shorter = &certificate[..certificate.len() - 1];
+    assert_eq!(checked(shorter), (1, CERTIFICATE_LINES as u64));
+    for (key, right, wrong) in [
+        ("area", "", "-"),
+        ("chi1", "", "0"),
+        ("shiftlo", "142", "-0"),
+        ("shifthi", "143", "-0143"),
+        ("shifthi", "143", "--143"),
+        ("shifthi", "143", "-"),
     ] {
-        let text = certificate.replace(right, wrong);
-        assert_eq!(checked(&text), (1, line), "{wrong}");
+        let [right, wrong] = [right, wrong].map(|value| format!("\n{key}={value}"));
+        let text = certificate.replace(&right, &wrong);
+        assert_eq!(checked(&text), (1, line_of(key)), "{wrong}");
     }
 }
 
 #[test]
 fn question_13_names_the_first_line_that_differs() {
     let certificate = certificate_b();
-    for (key, line) in FIGURE_KEYS.iter().zip(13..) {
+    for key in Figures::KEYS {
+        let line = line_of(key);
         let changed = certificate.replace(&format!("\n{key}="), &format!("\n{key}=9"));
         assert_eq!(checked(&changed), (13, line));
         let twice = changed.replace("shifthi=", "shifthi=-9");
         assert_eq!(checked(&twice), (13, line));
     }
     let minus = certificate.replace("shiftlo=", "shiftlo=-");
-    assert_eq!(checked(&minus), (13, 17));
+    assert_eq!(checked(&minus), (13, line_of("shiftlo")));
     let other_factor = certificate.replace("gm0=1000", "gm0=1100");
-    assert_eq!(checked(&other_factor), (13, 14));
+    assert_eq!(checked(&other_factor), (13, line_of("axial")));
 }
 
 #[test]

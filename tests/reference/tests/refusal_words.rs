@@ -1,6 +1,7 @@
 //! Header and Python module say what is wrong in the words of README.md.
 
 use reference::repository::{in_repository, refusal_words};
+use reference::text::REFUSALS;
 use std::process::Command;
 use std::{env, fs};
 
@@ -16,7 +17,7 @@ fn printed(command: &mut Command) -> Vec<String> {
 /// README.md's words, and what is said of the numbers around them.
 fn expected() -> Vec<String> {
     let words = refusal_words();
-    assert_eq!(words.len(), 13);
+    assert_eq!(words.len(), REFUSALS);
     let around = |word: &str| vec![word.to_string()];
     [around("nothing is wrong"), words, around("no such refusal")].concat()
 }
@@ -54,10 +55,13 @@ fn the_header_has_the_words_of_readme() {
 
 #[test]
 fn the_python_module_has_the_words_of_readme() {
-    let script = "import honemagenta\nfor n in range(15): print(honemagenta.refusal_words(n))";
+    let numbers = REFUSALS + 2;
+    let script = format!(
+        "import honemagenta\nfor n in range({numbers}): print(honemagenta.refusal_words(n))"
+    );
     let words = printed(
         Command::new("python3")
-            .args(["-B", "-c", script])
+            .args(["-B", "-c", &script])
             .current_dir(in_repository("examples")),
     );
     assert_eq!(words, expected());

@@ -17,12 +17,14 @@ fn rounds_to(pair: Pair, printed: &str) -> bool {
         .all(|end| (end + unit / 2).div_euclid(unit) == digits)
 }
 
-fn assert_rounds(pair: Pair, printed: &str) {
-    assert!(
-        rounds_to(pair, printed),
-        "{:?} is not {printed}",
-        pair.ends()
-    );
+fn assert_all_round(printed: &[(Pair, &str)]) {
+    for &(pair, decimal) in printed {
+        assert!(
+            rounds_to(pair, decimal),
+            "{:?} is not {decimal}",
+            pair.ends()
+        );
+    }
 }
 
 fn sheet_b() -> Working {
@@ -32,44 +34,52 @@ fn sheet_b() -> Working {
 #[test]
 fn mid_line_lengths() {
     let lengths = sheet_b().lengths;
-    assert_rounds(lengths.hp, "198");
-    assert_rounds(lengths.bp[0], "72");
-    assert_rounds(lengths.bp[1], "64");
-    assert_rounds(lengths.cp, "19.8");
+    assert_all_round(&[
+        (lengths.hp, "198"),
+        (lengths.bp[0], "72"),
+        (lengths.bp[1], "64"),
+        (lengths.cp, "19.8"),
+    ]);
 }
 
 #[test]
 fn slenderness() {
     let b = sheet_b();
     let [one, two] = b.rounds[0].stiffeners;
-    assert_rounds(one.flange.u, "0.789");
-    assert_rounds(two.flange.u, "0.702");
-    assert_rounds(one.lip.u, "0.614");
-    assert_rounds(two.lip.u, "0.614");
-    assert_rounds(b.web.u, "2.171");
+    assert_all_round(&[
+        (one.flange.u, "0.789"),
+        (two.flange.u, "0.702"),
+        (one.lip.u, "0.614"),
+        (two.lip.u, "0.614"),
+        (b.web.u, "2.171"),
+    ]);
 }
 
 #[test]
 fn lip_ratios() {
     let b = sheet_b();
-    assert_rounds(b.lip_ratios[0].q, "0.275");
-    assert_rounds(b.lip_ratios[1].q, "0.309");
-    assert_rounds(b.lip_ratios[0].k, "0.5");
-    assert_rounds(b.lip_ratios[1].k, "0.5");
+    assert_all_round(&[
+        (b.lip_ratios[0].q, "0.275"),
+        (b.lip_ratios[1].q, "0.309"),
+        (b.lip_ratios[0].k, "0.5"),
+        (b.lip_ratios[1].k, "0.5"),
+    ]);
 }
 
 #[test]
 fn parts_that_count() {
     let b = sheet_b();
     let [one, two] = b.rounds[0].stiffeners;
-    assert_rounds(one.flange.rho, "0.914");
-    assert_rounds(two.flange.rho, "0.978");
-    assert_rounds(one.lip.rho, "1");
-    assert_rounds(two.lip.rho, "1");
-    assert_rounds(b.web.rho, "0.414");
-    assert_rounds(b.parts.be1[0], "32.9");
-    assert_rounds(b.parts.be1[1], "31.3");
-    assert_rounds(b.parts.he, "41");
+    assert_all_round(&[
+        (one.flange.rho, "0.914"),
+        (two.flange.rho, "0.978"),
+        (one.lip.rho, "1"),
+        (two.lip.rho, "1"),
+        (b.web.rho, "0.414"),
+        (b.parts.be1[0], "32.9"),
+        (b.parts.be1[1], "31.3"),
+        (b.parts.he, "41"),
+    ]);
 }
 
 #[test]
@@ -78,39 +88,45 @@ fn stiffeners_before_refining() {
     let first = b.rounds[0];
     let [one, two] = first.stiffeners;
     let t = b.lengths.t;
-    assert_rounds(t * one.a, "103.3");
-    assert_rounds(t * two.a, "100.2");
-    assert_rounds(one.g, "61.73");
-    assert_rounds(two.g, "54.41");
-    assert_rounds(first.kf, "0.97");
-    assert_rounds(t * one.j, "3663");
-    assert_rounds(t * two.j, "3618");
-    assert_rounds(one.ud, "1.064");
-    assert_rounds(two.ud, "0.999");
-    assert_rounds(one.chi, "0.701");
-    assert_rounds(two.chi, "0.75");
+    assert_all_round(&[
+        (t * one.a, "103.3"),
+        (t * two.a, "100.2"),
+        (one.g, "61.73"),
+        (two.g, "54.41"),
+        (first.kf, "0.97"),
+        (t * one.j, "3663"),
+        (t * two.j, "3618"),
+        (one.ud, "1.064"),
+        (two.ud, "0.999"),
+        (one.chi, "0.701"),
+        (two.chi, "0.75"),
+    ]);
 }
 
 #[test]
 fn stiffeners_refined() {
     let b = sheet_b();
     let [one, two] = b.rounds[1].stiffeners;
-    assert_rounds(one.be2, "36");
-    assert_rounds(two.be2, "32");
-    assert_rounds(one.c_eff, "19.8");
-    assert_rounds(two.c_eff, "19.8");
-    assert_rounds(one.chi, "0.693");
-    assert_rounds(two.chi, "0.749");
-    assert_rounds(one.chi, "0.69");
-    assert_rounds(two.chi, "0.75");
+    assert_all_round(&[
+        (one.be2, "36"),
+        (two.be2, "32"),
+        (one.c_eff, "19.8"),
+        (two.c_eff, "19.8"),
+        (one.chi, "0.693"),
+        (two.chi, "0.749"),
+        (one.chi, "0.69"),
+        (two.chi, "0.75"),
+    ]);
 }
 
 #[test]
 fn area_and_axis() {
     let b = sheet_b();
-    assert_rounds(b.lengths.t * b.gross.length, "732");
-    assert_rounds(b.gross.z, "96.88");
-    assert_rounds(b.effective.z, "98.3");
+    assert_all_round(&[
+        (b.lengths.t * b.gross.length, "732"),
+        (b.gross.z, "96.88"),
+        (b.effective.z, "98.3"),
+    ]);
 }
 
 /// Without rounds: 433.88 mm² and 98.82 mm, which 002 has from rounded
@@ -121,8 +137,7 @@ fn area_and_axis_without_rounds() {
         rounds: 0,
         ..SHEET_B
     });
-    assert_rounds(b.area, "434");
-    assert_rounds(b.effective.z, "98.8");
+    assert_all_round(&[(b.area, "434"), (b.effective.z, "98.8")]);
 }
 
 /// With 002's own rounded parts, area and axis are as it prints them.
@@ -138,6 +153,8 @@ fn area_and_axis_from_rounded_parts() {
         chi: [s.exact(69, 100), s.exact(75, 100)],
     };
     let axis = rounded.axis();
-    assert_rounds(s.exact(196, 100) * axis.length, "438.16");
-    assert_rounds(axis.z, "98.39");
+    assert_all_round(&[
+        (s.exact(196, 100) * axis.length, "438.16"),
+        (axis.z, "98.39"),
+    ]);
 }

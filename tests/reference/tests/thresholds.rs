@@ -4,7 +4,7 @@
 use reference::chance::{Chance, SEED};
 use reference::limits::{at_limit, limits};
 use reference::pair::{Pair, Scale};
-use reference::thresholds::{kept, AtDistances, Near, KEPT, THRESHOLDS};
+use reference::thresholds::{kept, shown, Near, KEPT, THRESHOLDS};
 use reference::working::worked;
 
 #[test]
@@ -18,22 +18,12 @@ fn kept_sheets_lie_near_every_threshold() {
     }
 }
 
-/// Which ends lie at which distance from a mark.
-fn shown(pairs: impl Iterator<Item = Pair>, mark: i128) -> AtDistances<bool> {
-    let mut shown = AtDistances::default();
-    for pair in pairs {
-        for (end, distance) in [pair.lo - mark, pair.hi - mark].into_iter().enumerate() {
-            if distance.abs() <= 2 {
-                shown[end][(distance + 2) as usize] = true;
-            }
-        }
-    }
-    shown
-}
-
-fn occur(name: &str) -> AtDistances<bool> {
-    let mut all = THRESHOLDS.iter();
-    all.find(|t| t.name == name).expect("a threshold").occur
+/// Asserts that the pairs show each end and distance that occurs, and no others.
+fn assert_shown(name: &str, pairs: impl Iterator<Item = Pair>) {
+    let threshold = THRESHOLDS.iter().find(|t| t.name == name);
+    let threshold = threshold.expect("a threshold");
+    let distances = pairs.map(|pair| threshold.from(pair));
+    assert_eq!(shown(distances), threshold.occur, "{name}");
 }
 
 /// Every cp near 0.35 bp, in half hundredths, of every bp up to 200 mm.
@@ -44,7 +34,7 @@ fn ratios_near_the_threshold() {
         let twice = 7 * bp / 10;
         (twice - 1..twice + 3).map(move |cp| s.exact(cp, 200) / s.exact(bp, 100))
     });
-    assert_eq!(shown(ratios, 350_000), occur("q at 0.35"));
+    assert_shown("q at 0.35", ratios);
 }
 
 /// Every fourth power near that of the threshold, in units.
@@ -55,8 +45,8 @@ fn stiffener_slenderness_near_the_thresholds() {
         let fourth = mark * mark / 1_000_000 * mark / 1_000_000 * mark / 1_000_000;
         (fourth - 1000..fourth + 1000).map(move |x| s.pair(x, x).root().root())
     };
-    assert_eq!(shown(roots(650_000), 650_000), occur("ud at 0.65"));
-    assert_eq!(shown(roots(1_380_000), 1_380_000), occur("ud at 1.38"));
+    assert_shown("ud at 0.65", roots(650_000));
+    assert_shown("ud at 1.38", roots(1_380_000));
 }
 
 /// No number lies below 0, so a limit at 0 has no sheets past it; and two units

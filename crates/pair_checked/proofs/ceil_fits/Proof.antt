@@ -6,9 +6,6 @@ use borrow.Author.Needs.{needs}
 use Rattle.pair_checked.proofs.ceil_fits.Statement.{statement}
 use Rattle.pair_checked.proofs.ceil_fits.Tie as tie
 
-floor-fits-requires : tie.Need-floor-fits-requires
-floor-fits-requires c κs = search needs
-
 product-by-requires : tie.Need-product-by-requires
 product-by-requires c κs = quotient-out _ _ (sym (c .before .floor-fits .ensures) ∙ c .if1 .taken)
 
@@ -22,5 +19,4 @@ returns-3 : tie.Need-returns-3
 returns-3 c = ceil-test-past (c .before .before .args .a * c .before .before .args .b) (c .before .before .args .d) (sym (c .before .floor-fits .ensures) ∙ c .if1 .left)
 
 pub ceil-fits-spec : {M : Type 1} → statement M
-ceil-fits-spec =
-    tie.close (tie.spec floor-fits-requires product-by-requires returns returns-2 returns-3)
+ceil-fits-spec = tie.close (tie.spec (λ c κs. search needs) product-by-requires returns returns-2 returns-3)

@@ -7,20 +7,8 @@ use borrow.Author.Needs.{needs}
 use Rattle.pair_checked.proofs.cube_root_fits.Statement.{statement}
 use Rattle.pair_checked.proofs.cube_root_fits.Tie as tie
 
-high-requires : tie.Need-high-requires
-high-requires c κs = search needs
-
 mul-most : tie.Need-mul-most
 mul-most c = record { fits = low-word (c .before .before .high .ensures) (c .before .if1 .taken) }
-
-both-requires : tie.Need-both-requires
-both-requires c κs = search needs
-
-high-requires-2 : tie.Need-high-requires-2
-high-requires-2 c κs = search needs
-
-both-requires-2 : tie.Need-both-requires-2
-both-requires-2 c κs = search needs
 
 returns : tie.Need-returns
 returns c = c .both2 .ensures ∙ ap₂ _&&_ (c .before .before .both .ensures) refl ∙ cube-root-test _ _ (c .before .high2 .ensures)
@@ -31,11 +19,4 @@ returns-2 c = cube-root-past _ _ (c .before .high .ensures) (c .if1 .left)
 pub cube-root-fits-spec : {M : Type 1} → statement M
 cube-root-fits-spec =
     tie.close
-    (tie.spec
-    high-requires
-    mul-most
-    both-requires
-    high-requires-2
-    both-requires-2
-    returns
-    returns-2)
+    (tie.spec (λ c κs. search needs) mul-most (λ c κs. search needs) (λ c κs. search needs) (λ c κs. search needs) returns returns-2)

@@ -5,11 +5,8 @@ use borrow.Author.Needs.{needs}
 use Rattle.pair_checked.proofs.floor_fits.Statement.{statement}
 use Rattle.pair_checked.proofs.floor_fits.Tie as tie
 
-high-requires : tie.Need-high-requires
-high-requires c κs = search needs
-
 returns : tie.Need-returns
 returns c = floor-test (c .before .args .a * c .before .args .b) (c .before .args .d) (c .high .ensures)
 
 pub floor-fits-spec : {M : Type 1} → statement M
-floor-fits-spec = tie.close (tie.spec high-requires returns)
+floor-fits-spec = tie.close (tie.spec (λ c κs. search needs) returns)

@@ -6,17 +6,8 @@ use borrow.Author.Needs.{needs}
 use Rattle.pair_checked.proofs.over_fits.Statement.{statement}
 use Rattle.pair_checked.proofs.over_fits.Tie as tie
 
-floor-fits-requires : tie.Need-floor-fits-requires
-floor-fits-requires c κs = search needs
-
-ceil-fits-requires : tie.Need-ceil-fits-requires
-ceil-fits-requires c κs = search needs
-
-both-requires : tie.Need-both-requires
-both-requires c κs = search needs
-
 returns : tie.Need-returns
 returns c = c .both .ensures ∙ ap₂ _&&_ (c .before .before .floor-fits .ensures) (c .before .ceil-fits .ensures) ∙ over-test _ _ _
 
 pub over-fits-spec : {M : Type 1} → statement M
-over-fits-spec = tie.close (tie.spec floor-fits-requires ceil-fits-requires both-requires returns)
+over-fits-spec = tie.close (tie.spec (λ c κs. search needs) (λ c κs. search needs) (λ c κs. search needs) returns)

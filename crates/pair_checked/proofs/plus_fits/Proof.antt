@@ -7,18 +7,9 @@ use borrow.Author.Needs.{needs}
 use Rattle.pair_checked.proofs.plus_fits.Statement.{statement}
 use Rattle.pair_checked.proofs.plus_fits.Tie as tie
 
-sum-fits-requires : tie.Need-sum-fits-requires
-sum-fits-requires c κs = search needs
-
-sum-fits-requires-2 : tie.Need-sum-fits-requires-2
-sum-fits-requires-2 c κs = search needs
-
-both-requires : tie.Need-both-requires
-both-requires c κs = search needs
-
 returns : tie.Need-returns
 unfolding plusFits words plus
 returns c = c .both .ensures ∙ ap₂ _&&_ (c .before .before .sum-fits .ensures) (c .before .sum-fits2 .ensures)
 
 pub plus-fits-spec : {M : Type 1} → statement M
-plus-fits-spec = tie.close (tie.spec sum-fits-requires sum-fits-requires-2 both-requires returns)
+plus-fits-spec = tie.close (tie.spec (λ c κs. search needs) (λ c κs. search needs) (λ c κs. search needs) returns)

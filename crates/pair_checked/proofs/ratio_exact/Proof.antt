@@ -9,18 +9,11 @@ use Rattle.pair_checked.proofs.ratio_exact.Tie as tie
 returns : tie.Need-returns
 returns c = ratio-none _ _ _ (c .if1 .taken)
 
-rem-product-by : tie.Need-rem-product-by
-rem-product-by c = search needs
-
 product-by-requires : tie.Need-product-by-requires
 product-by-requires c κs = rest-fits (c .before .args .a) (c .before .args .b) (c .before .args .s) (omega arith) (omega arith)
-
-both-requires : tie.Need-both-requires
-both-requires c κs = search needs
 
 returns-2 : tie.Need-returns-2
 returns-2 c = c .both .ensures ∙ ratio-test _ _ _ (c .before .before .product-by .ensures)
 
 pub ratio-exact-spec : {M : Type 1} → statement M
-ratio-exact-spec =
-    tie.close (tie.spec returns rem-product-by product-by-requires both-requires returns-2)
+ratio-exact-spec = tie.close (tie.spec returns (λ c. search needs) product-by-requires (λ c κs. search needs) returns-2)

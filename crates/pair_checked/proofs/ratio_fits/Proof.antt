@@ -9,12 +9,6 @@ use borrow.Author.Needs.{needs}
 use Rattle.pair_checked.proofs.ratio_fits.Statement.{statement}
 use Rattle.pair_checked.proofs.ratio_fits.Tie as tie
 
-high-requires : tie.Need-high-requires
-high-requires c κs = search needs
-
-both-requires : tie.Need-both-requires
-both-requires c κs = search needs
-
 returns : tie.Need-returns
 unfolding ratioFits
 returns c =
@@ -23,4 +17,4 @@ returns c =
     ∙ ap (λ (t : Bool). ltb 0 (start .args .b) && t) (word-test (start .args .a * start .args .s) (c .before .high .ensures))
 
 pub ratio-fits-spec : {M : Type 1} → statement M
-ratio-fits-spec = tie.close (tie.spec high-requires both-requires returns)
+ratio-fits-spec = tie.close (tie.spec (λ c κs. search needs) (λ c κs. search needs) returns)

@@ -6,17 +6,8 @@ use borrow.Author.Needs.{needs}
 use Rattle.pair_checked.proofs.root_fits.Statement.{statement}
 use Rattle.pair_checked.proofs.root_fits.Tie as tie
 
-both-requires : tie.Need-both-requires
-both-requires c κs = search needs
-
-high-requires : tie.Need-high-requires
-high-requires c κs = search needs
-
-both-requires-2 : tie.Need-both-requires-2
-both-requires-2 c κs = search needs
-
 returns : tie.Need-returns
 returns c = c .both2 .ensures ∙ ap₂ _&&_ (c .before .before .both .ensures) refl ∙ root-test _ _ (c .before .high .ensures)
 
 pub root-fits-spec : {M : Type 1} → statement M
-root-fits-spec = tie.close (tie.spec both-requires high-requires both-requires-2 returns)
+root-fits-spec = tie.close (tie.spec (λ c κs. search needs) (λ c κs. search needs) (λ c κs. search needs) returns)

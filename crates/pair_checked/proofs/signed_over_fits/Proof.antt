@@ -7,15 +7,6 @@ use borrow.Author.Needs.{needs}
 use Rattle.pair_checked.proofs.signed_over_fits.Statement.{statement}
 use Rattle.pair_checked.proofs.signed_over_fits.Tie as tie
 
-reach-of-requires : tie.Need-reach-of-requires
-reach-of-requires c κs = search needs
-
-ceil-fits-requires : tie.Need-ceil-fits-requires
-ceil-fits-requires c κs = search needs
-
-both-requires : tie.Need-both-requires
-both-requires c κs = search needs
-
 returns : tie.Need-returns
 returns c =
     let q = c .before .before .before .before .args .q in
@@ -24,5 +15,4 @@ returns c =
     ∙ signed-over-test _ _ _ (c .before .before .reach-of .ensures)
 
 pub signed-over-fits-spec : {M : Type 1} → statement M
-signed-over-fits-spec =
-    tie.close (tie.spec reach-of-requires ceil-fits-requires both-requires returns)
+signed-over-fits-spec = tie.close (tie.spec (λ c κs. search needs) (λ c κs. search needs) (λ c κs. search needs) returns)

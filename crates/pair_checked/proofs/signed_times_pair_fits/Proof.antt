@@ -6,14 +6,8 @@ use borrow.Author.Needs.{needs}
 use Rattle.pair_checked.proofs.signed_times_pair_fits.Statement.{statement}
 use Rattle.pair_checked.proofs.signed_times_pair_fits.Tie as tie
 
-of-requires : tie.Need-of-requires
-of-requires c κs = search needs
-
-signed-times-fits-requires : tie.Need-signed-times-fits-requires
-signed-times-fits-requires c κs = search needs
-
 returns : tie.Need-returns
 returns c = c .signed-times-fits .ensures ∙ ap (signedTimesFits _ _) (pair-means (c .before .of .ensures))
 
 pub signed-times-pair-fits-spec : {M : Type 1} → statement M
-signed-times-pair-fits-spec = tie.close (tie.spec of-requires signed-times-fits-requires returns)
+signed-times-pair-fits-spec = tie.close (tie.spec (λ c κs. search needs) (λ c κs. search needs) returns)

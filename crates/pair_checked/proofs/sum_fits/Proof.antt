@@ -5,11 +5,8 @@ use borrow.Author.Needs.{needs}
 use Rattle.pair_checked.proofs.sum_fits.Statement.{statement}
 use Rattle.pair_checked.proofs.sum_fits.Tie as tie
 
-sub-result : tie.Need-sub-result
-sub-result c = search needs
-
 returns : tie.Need-returns
 returns c = sum-test (c .args .a) (c .args .b) (omega arith)
 
 pub sum-fits-spec : {M : Type 1} → statement M
-sum-fits-spec = tie.close (tie.spec sub-result returns)
+sum-fits-spec = tie.close (tie.spec (λ c. search needs) returns)

@@ -1,7 +1,7 @@
 //! The reference's three calls for C, as tests/bench/calls.h has them.
 
 use reference::text::{check, write_from_numbers, write_from_text, Answer};
-use reference::with_sheet_numbers;
+use reference::with_sheet_lines;
 use std::slice;
 
 /// # Safety
@@ -25,7 +25,7 @@ pub unsafe extern "C" fn reference_check(certificate: *const u8, length: usize) 
 }
 
 macro_rules! define_from_numbers {
-    ($($number:ident),*) => {
+    ($($number:ident $place:ident $range:tt)*) => {
         /// # Safety
         /// The buffer is the caller's, with its room.
         #[no_mangle]
@@ -41,4 +41,4 @@ macro_rules! define_from_numbers {
     };
 }
 
-with_sheet_numbers!(define_from_numbers);
+with_sheet_lines!(define_from_numbers);

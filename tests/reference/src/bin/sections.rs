@@ -1,117 +1,47 @@
-//! Writes test sections and their expected results, sheets at the edges of the
-//! questions, every intermediate pair of sheet B, or sheets near the thresholds; or
-//! prints how many of the sections are of each kind, or section 18 of
-//! docs/WORKING.md, sheet B worked step by step.
+//! The test sections, sheets near the thresholds, and sheet B worked:
 //!
-//! sections INPUTS RESULTS
-//! sections --edges INPUTS RESULTS
-//! sections --intermediate FILE
-//! sections --thresholds FILE
-//! sections --kinds
-//! sections --worked
+//! sections --kinds                   prints how many sections are of each kind
+//! sections --worked                  prints section 18 of docs/WORKING.md
+//! sections --thresholds [--write]    makes tests/reference/thresholds.txt, by search
 
 use reference::chance::{Chance, SEED};
-use reference::edges::edges;
 use reference::generate::worked_sections;
+use reference::kept::{hold_or_write_by, Made};
 use reference::kinds::{count, KINDS};
-use reference::named::SHEET_B;
-use reference::sheet::{ask_before_working, Figures, Sheet};
+use reference::section_cases::line;
 use reference::thresholds::{search, KEPT, THRESHOLDS};
 use reference::worked_example::worked_example;
-use reference::working::{worked, Working};
-use std::fmt::Display;
-use std::io::Write;
+use std::env;
 use std::process::ExitCode;
-use std::{env, fs, io};
 
 fn main() -> ExitCode {
     let arguments: Vec<String> = env::args().skip(1).collect();
-    let done = match arguments.iter().map(String::as_str).collect::<Vec<_>>()[..] {
-        ["--intermediate", file] => fs::write(file, intermediate_lines(&SHEET_B)),
-        ["--thresholds", file] => fs::write(file, threshold_lines()),
-        ["--edges", inputs, results] => write_edges(inputs, results),
-        ["--kinds"] => {
-            print_kinds();
-            Ok(())
-        }
-        ["--worked"] => io::stdout().write_all(worked_example().as_bytes()),
-        [inputs, results] => write_sections(inputs, results),
+    match arguments.iter().map(String::as_str).collect::<Vec<_>>()[..] {
+        ["--kinds"] => print_kinds(),
+        ["--worked"] => print!("{}", worked_example()),
+        ["--thresholds", ..] => return thresholds(&arguments[1..]),
         _ => {
-            eprintln!(
-                "sections [--edges] INPUTS RESULTS | --intermediate|--thresholds FILE | --kinds | --worked"
-            );
+            eprintln!("sections --kinds | --worked | --thresholds [--write]");
             return ExitCode::FAILURE;
         }
-    };
-    match done {
-        Ok(()) => ExitCode::SUCCESS,
-        Err(error) => {
-            eprintln!("{error}");
-            ExitCode::FAILURE
-        }
     }
-}
-
-fn write_sections(inputs: &str, results: &str) -> io::Result<()> {
-    let all = worked_sections();
-    let input_lines = all.iter().map(|(sheet, _)| line(&sheet.numbers()));
-    let result_lines = all
-        .iter()
-        .map(|(sheet, working)| result_line(sheet, working));
-    fs::write(inputs, input_lines.collect::<String>())?;
-    fs::write(results, result_lines.collect::<String>())
-}
-
-/// A sheet that meets questions 2 to 10 has its line of results, any other
-/// `refused`, the question and the line.
-fn write_edges(inputs: &str, results: &str) -> io::Result<()> {
-    let all = edges();
-    let input_lines = all.iter().map(|numbers| line(numbers));
-    let result_lines = all
-        .iter()
-        .map(|numbers| match ask_before_working(*numbers) {
-            Ok(sheet) => result_line(&sheet, &worked(&sheet)),
-            Err(refusal) => format!("refused {} {}\n", refusal.number, refusal.line),
-        });
-    fs::write(inputs, input_lines.collect::<String>())?;
-    fs::write(results, result_lines.collect::<String>())
-}
-
-/// Decimal numbers separated by one blank.
-fn line<T: Display>(numbers: &[T]) -> String {
-    let words: Vec<String> = numbers.iter().map(T::to_string).collect();
-    words.join(" ") + "\n"
-}
-
-/// Ends of area, chi1, chi2 and shift, then the six printed figures.
-fn result_line(sheet: &Sheet, working: &Working) -> String {
-    let [chi1, chi2] = working.parts.chi;
-    let mut numbers = Vec::new();
-    for pair in [working.area, chi1, chi2, working.shift] {
-        numbers.extend([pair.lo, pair.hi]);
-    }
-    numbers.extend(Figures::of(sheet, working).numbers());
-    line(&numbers)
-}
-
-fn intermediate_lines(sheet: &Sheet) -> String {
-    let named = worked(sheet).named();
-    named
-        .iter()
-        .map(|(name, pair)| format!("{name} {} {}\n", pair.lo, pair.hi))
-        .collect()
+    ExitCode::SUCCESS
 }
 
 /// The sheets near each threshold, one to a line, under its name.
-fn threshold_lines() -> String {
+fn thresholds(switches: &[String]) -> ExitCode {
     let mut chance = Chance::seeded(SEED);
-    let mut lines = "# Found and written by `sections --thresholds`.\n".to_string();
+    let mut text = "# Found and written by `sections --thresholds`.\n".to_string();
+    let mut sheets = 0;
     for threshold in &THRESHOLDS {
-        lines += &format!("# {}\n", threshold.name);
+        text += &format!("# {}\n", threshold.name);
         let found = search(threshold, &mut chance, KEPT);
-        lines.extend(found.iter().map(|sheet| line(&sheet.numbers())));
+        sheets += found.len();
+        text.extend(found.iter().map(|sheet| line(&sheet.numbers())));
     }
-    lines
+    let mut made = Made::default();
+    made.file("tests/reference/thresholds.txt", text);
+    hold_or_write_by(switches, "thresholds", &format!("{sheets} sheets"), &made)
 }
 
 fn print_kinds() {

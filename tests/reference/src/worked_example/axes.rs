@@ -7,10 +7,14 @@ use crate::working::{Axis, Working};
 
 /// L of the parts whose symbols are set.
 fn total_length(steps: &mut Steps, section: u32) -> Worked {
-    steps.part(section, "be1 of flange 1 + be1 of flange 2");
-    steps.part(section, "be1 of flange 1 + be1 of flange 2 + he + he");
-    steps.part(section, "a1×χ1");
-    steps.part(section, "a2×χ2");
+    for part in [
+        "be1 of flange 1 + be1 of flange 2",
+        "be1 of flange 1 + be1 of flange 2 + he + he",
+        "a1×χ1",
+        "a2×χ2",
+    ] {
+        steps.part(section, part);
+    }
     let l = "be1 of flange 1 + be1 of flange 2 + he + he + a1×χ1 + a2×χ2";
     steps.symbol(section, "L", l)
 }

@@ -2,10 +2,12 @@
 
 use super::after_rounds;
 use crate::finer::{inequalities, Inequality, Relation};
-use crate::pair::{Pair, Scale};
-use crate::sheet::{ask_allowance, axial_resistance, Accepted, Refusal, Sheet};
+use crate::pair::Pair;
+use crate::sheet::{
+    ask_allowance, axial_resistance, Accepted, Figures, Refusal, Sheet, CERTIFICATE_LINES,
+};
 use crate::steps::{decimal, fixed, Steps};
-use crate::text::FIGURE_KEYS;
+use crate::text::{line_of, BEHIND_SHEET};
 use crate::working::Working;
 
 /// m of the finer working that is shown.
@@ -19,13 +21,16 @@ pub fn printed(steps: &mut Steps, accepted: &Accepted) {
         "### 18.{} What is printed",
         after_rounds(working, 2)
     ));
-    steps.paragraph("Lines 13 to 18 of the certificate (section 13).");
+    steps.paragraph(format!(
+        "Lines {BEHIND_SHEET} to {CERTIFICATE_LINES} of the certificate (section 13)."
+    ));
     let figures = figures.numbers();
     let rows = sources(accepted).into_iter().enumerate();
     let rows = rows.map(|(i, (what, value))| {
         let (unit, rounded) = ROUNDED[i];
-        let line = (i + 13).to_string();
-        let printed = format!("`{}={}`", FIGURE_KEYS[i], figures[i]);
+        let key = Figures::KEYS[i];
+        let line = line_of(key).to_string();
+        let printed = format!("`{key}={}`", figures[i]);
         [line, what, value, unit.into(), rounded.into(), printed]
     });
     let columns = ["line", "worked from", "value", "unit", "rounded", "printed"];
@@ -33,7 +38,7 @@ pub fn printed(steps: &mut Steps, accepted: &Accepted) {
 }
 
 /// Unit and rounding of the figures.
-const ROUNDED: [(&str, &str); 6] = [
+const ROUNDED: [(&str, &str); Figures::LINES] = [
     ("0.01 mm²", "down"),
     ("N", "down, once"),
     ("thousandths", "down"),
@@ -43,7 +48,7 @@ const ROUNDED: [(&str, &str); 6] = [
 ];
 
 /// For each figure what it comes from, and the value of that in the figure's unit.
-fn sources(accepted: &Accepted) -> [(String, String); 6] {
+fn sources(accepted: &Accepted) -> [(String, String); Figures::LINES] {
     let Accepted { sheet, working, .. } = accepted;
     let [chi1, chi2] = working.parts.chi;
     let (area, shift) = (working.area, working.shift);
@@ -94,7 +99,7 @@ pub fn finer_working(steps: &mut Steps, accepted: &Accepted) {
         working,
         figures,
     } = accepted;
-    let scale = Scale::multiple(FINER);
+    let scale = sheet.finer_scale(FINER);
     let finer = Working::of(sheet, scale);
     let ends = |pair: Pair| [pair.lo, pair.hi].map(|end| fixed(end, scale)).join(" to ");
     steps.lines(format!(

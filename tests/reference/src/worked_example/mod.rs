@@ -6,8 +6,8 @@ mod figures;
 mod stiffeners;
 
 use crate::named::SHEET_B;
-use crate::pair::{Pair, Scale};
-use crate::rules::{thousandths, WidthRule, OUTSTAND, SUPPORTED};
+use crate::pair::Pair;
+use crate::rules::{thousandths, WidthRule, LIP_HALF_TO, OUTSTAND, SUPPORTED};
 use crate::sheet::{ask_numbers, Accepted, Sheet};
 use crate::steps::{decimal, fixed, Steps};
 use crate::text::sheet_text;
@@ -102,17 +102,10 @@ fn sheet_lines(steps: &mut Steps, sheet: &Sheet) {
     let lines = sheet_text(sheet.numbers());
     steps.lines("### 18.1 The sheet");
     steps.lines(format!("```\n{lines}```"));
-    let lengths = [
-        ("h", sheet.h),
-        ("b1", sheet.b1),
-        ("b2", sheet.b2),
-        ("c", sheet.c),
-        ("tnom", sheet.tnom),
-        ("t", sheet.t),
-    ];
-    let scale = Scale::multiple(1);
+    let scale = sheet.scale();
     let mut shown = Vec::new();
-    for (symbol, hundredths) in lengths {
+    // The radius is not worked with.
+    for (symbol, hundredths) in sheet.lengths().into_iter().filter(|&(key, _)| key != "r") {
         steps.given(symbol, scale.exact(hundredths as i128, 100), 1);
         shown.push(format!("{symbol} = {}", decimal(hundredths as i128, 100)));
     }
@@ -143,10 +136,14 @@ fn mid_lines(steps: &mut Steps, working: &Working) {
 /// u² of a plane, of which w and k are set, then u and ρ.
 fn plane(steps: &mut Steps, plane: &Plane, rule: (u32, WidthRule)) {
     let u2 = "(w÷t)×(w÷t)×fyb÷189541.6÷k";
-    steps.part(SLENDERNESS, "w÷t");
-    steps.part(SLENDERNESS, "(w÷t)×(w÷t)");
-    steps.part(SLENDERNESS, "(w÷t)×(w÷t)×fyb");
-    steps.part(SLENDERNESS, "(w÷t)×(w÷t)×fyb÷189541.6");
+    for part in [
+        "w÷t",
+        "(w÷t)×(w÷t)",
+        "(w÷t)×(w÷t)×fyb",
+        "(w÷t)×(w÷t)×fyb÷189541.6",
+    ] {
+        steps.part(SLENDERNESS, part);
+    }
     steps.symbol(SLENDERNESS, "u²", u2).is(plane.u2);
     width_that_counts(steps, plane, rule);
 }
@@ -203,7 +200,7 @@ fn lips(steps: &mut Steps, working: &Working) {
         steps.alias("w", "cp");
         steps.alias("bp", bp);
         steps.symbol(LIP, "q", "cp÷bp").is(ratio.q);
-        assert!(ratio.q.hi <= thousandths(working.scale, 350));
+        assert!(ratio.q.hi <= thousandths(working.scale, LIP_HALF_TO));
         steps.by_rule(LIP, "k", "0.5, as q ≤ 0.35", ratio.k);
         plane(steps, &working.rounds[0].stiffeners[i].lip, (LIP, OUTSTAND));
         keep(steps, &["u²", "ρ"], owner);

@@ -3,7 +3,7 @@
 use super::section::*;
 use super::{at_the_ends, from_step, keep, take, titled, width_that_counts};
 use super::{FACTORS, FLANGES, LIPS, MID_WIDTHS};
-use crate::rules::{thousandths, OUTSTAND, SUPPORTED};
+use crate::rules::{thousandths, FACTOR_JUMPS_AT, FACTOR_ONE_TO, OUTSTAND, SUPPORTED};
 use crate::steps::Steps;
 use crate::working::{Round, Stiffener, Working};
 
@@ -89,15 +89,19 @@ fn effective_widths(steps: &mut Steps, i: usize, worked: &Stiffener, first: bool
 }
 
 fn second_moment(steps: &mut Steps, worked: &Stiffener) {
-    steps.part(STIFFENER, "be2×t");
-    steps.part(STIFFENER, "be2×t×t");
-    steps.part(STIFFENER, "be2×t×t÷12");
-    steps.part(STIFFENER, "c_eff×c_eff");
-    steps.part(STIFFENER, "c_eff×c_eff×c_eff");
-    steps.part(STIFFENER, "c_eff×c_eff×c_eff÷12");
-    steps.part(STIFFENER, "c_eff×c_eff×c_eff×be2");
-    steps.part(STIFFENER, "4×a");
-    steps.part(STIFFENER, "c_eff×c_eff×c_eff×be2÷(4×a)");
+    for part in [
+        "be2×t",
+        "be2×t×t",
+        "be2×t×t÷12",
+        "c_eff×c_eff",
+        "c_eff×c_eff×c_eff",
+        "c_eff×c_eff×c_eff÷12",
+        "c_eff×c_eff×c_eff×be2",
+        "4×a",
+        "c_eff×c_eff×c_eff×be2÷(4×a)",
+    ] {
+        steps.part(STIFFENER, part);
+    }
     let j = "be2×t×t÷12 + c_eff×c_eff×c_eff÷12 + c_eff×c_eff×c_eff×be2÷(4×a)";
     steps.symbol(STIFFENER, "J", j).is(worked.j);
 }
@@ -109,27 +113,35 @@ fn factor(steps: &mut Steps, i: usize, worked: &Stiffener) {
     take(steps, &["g", "J", "T"], owner);
     steps.alias("o", &format!("g of {other}"));
 
-    steps.part(STIFFENER, "g×g");
-    steps.part(STIFFENER, "g×g×hp");
-    steps.part(STIFFENER, "g×g×g");
-    steps.part(STIFFENER, "0.5×g");
-    steps.part(STIFFENER, "0.5×g×o");
-    steps.part(STIFFENER, "0.5×g×o×hp");
-    steps.part(STIFFENER, "0.5×g×o×hp×kf");
+    for part in [
+        "g×g",
+        "g×g×hp",
+        "g×g×g",
+        "0.5×g",
+        "0.5×g×o",
+        "0.5×g×o×hp",
+        "0.5×g×o×hp×kf",
+    ] {
+        steps.part(STIFFENER, part);
+    }
     let d = "g×g×hp + g×g×g + 0.5×g×o×hp×kf";
     steps.symbol(STIFFENER, "D", d).is(worked.d);
 
-    steps.part(STIFFENER, "D÷J");
-    steps.part(STIFFENER, "D÷J×T");
-    steps.part(STIFFENER, "D÷J×T×T");
-    steps.part(STIFFENER, "D÷J×T×T×0.91");
-    steps.part(STIFFENER, "D÷J×T×T×0.91÷1000000");
-    steps.part(STIFFENER, "root of (D÷J×T×T×0.91÷1000000)");
+    for part in [
+        "D÷J",
+        "D÷J×T",
+        "D÷J×T×T",
+        "D÷J×T×T×0.91",
+        "D÷J×T×T×0.91÷1000000",
+        "root of (D÷J×T×T×0.91÷1000000)",
+    ] {
+        steps.part(STIFFENER, part);
+    }
     let ud = "root of root of (D÷J×T×T×0.91÷1000000)";
     steps.symbol(STIFFENER, "ud", ud).is(worked.ud);
 
     let limit = |n| thousandths(worked.ud.scale, n);
-    assert!(worked.ud.lo > limit(650) && worked.ud.hi < limit(1380));
+    assert!(worked.ud.lo > limit(FACTOR_ONE_TO) && worked.ud.hi < limit(FACTOR_JUMPS_AT));
     let words = format!("1.47 − 0.723 × ud, {}", at_the_ends("ud", worked.ud));
     steps.by_rule(FACTOR, "χ", &words, worked.chi);
     steps.alias(FACTORS[i], "χ");

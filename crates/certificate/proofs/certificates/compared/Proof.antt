@@ -1,16 +1,20 @@
 -- `certificate::certificates::compared` meets its contract.
 use borrow.Author.Needs.{needs}
 use mathlib.Core.Path.{_≡_, sym, ap, _∙_}
+use Prim.Native.Nat.{_+_}
 use mathlib.Core.List.{List}
 use lib.IntN.{ℤ}
 use lib.ListN.{length, drop}
 use Rattle.section.specs.declared.Sheet.{Sheet}
-use Rattle.text.specs.Keys.{sheetLines, certificateLines}
-use Rattle.text.specs.Forms.{integers}
-use Rattle.questions.specs.Asking.{firstOf, firstIn}
+use Rattle.section.specs.Sheets.{sheetLines}
+use Rattle.lines.specs.Forms.{integers}
+use Rattle.questions.specs.Claims.{_is_, pairwise}
+use Rattle.certificate.specs.declared.Refusal.the-variants.{Figure}
+use Rattle.certificate.specs.Keys.{certificateLines}
+use Rattle.questions.specs.Asking.{askedFrom, firstOf, firstIn}
 use Rattle.certificate.specs.Questions.{foundOf, verdict}
 use Rattle.certificate.specs.Certificates.{certificateValues}
-use Rattle.certificate.specs.Outcome.{agreeing, checking}
+use Rattle.certificate.specs.Outcome.{checking}
 use Rattle.certificate.proofs.Shown.{integers-of, behind-sheet}
 use Rattle.certificate.proofs.OutcomeSteps.{found-in-array, judged-refusal, judged-figures, refused-checking, figures-asked}
 use Rattle.certificate.proofs.certificates.compared.Statement.{statement}
@@ -55,7 +59,7 @@ returns-2 c =
     let found = judged-figures (shown .result) (c .before .before .before .before .before .verdict-of .ensures) (c .before .before .before .verdict2 .given .1) in
     c .first-unlike .ensures
     ∙ ap foundOf
-    (ap (λ (ws : List ℤ). firstOf (agreeing 13 (drop sheetLines vs) ws)) (ap (drop sheetLines) (integers-of (certificateValues (shown .result)) (c .before .line-values .ensures)) ∙ behind-sheet (shown .result) _)
+    (ap (λ (ws : List ℤ). firstOf (askedFrom Figure (sheetLines + 1) (pairwise _is_ (drop sheetLines vs) ws))) (ap (drop sheetLines) (integers-of (certificateValues (shown .result)) (c .before .line-values .ensures)) ∙ behind-sheet (shown .result) _)
     ∙ sym (figures-asked (shown .result) vs (found .0))
     ∙ ap (λ (q : Sheet). firstIn (checking vs q)) (shown .ensures)
     ∙ sym (found-in-array (c .before .before .before .before .before .before .before .args .shown) (count (c .before .before .before .before .before .before .before))))

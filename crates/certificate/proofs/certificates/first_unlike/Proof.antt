@@ -3,29 +3,29 @@ use Prim.Native.Nat.{ℕ, _+_, _-_, _≤_, _<_}
 use mathlib.Core.List.{List}
 use mathlib.Core.Bool.{false}
 use mathlib.Core.Path.{_≡_, refl, sym, ap, _∙_}
-use lib.IntN.{ℤ}
-use lib.ListN.{length, drop, length-map}
+use lib.IntN.{ℤ, pos}
+use lib.ListN.{length, getD, drop, length-map}
 use borrow.Author.Tests.{not-true, not-false}
 use borrow.Author.Needs.{needs}
 use native.Mathlib.Omega.{arith}
 use Rattle.pair.specs.Forms.{integer}
 use Rattle.pair.specs.declared.signed.Integer.{Integer}
-use Rattle.text.specs.Keys.{sheetLines, certificateLines}
-use Rattle.text.specs.Forms.{integers}
-use Rattle.questions.specs.Claims.{_is_, test}
-use Rattle.questions.specs.Asking.{firstOf}
+use Rattle.section.specs.Sheets.{sheetLines}
+use Rattle.lines.specs.Forms.{integers}
+use Rattle.certificate.specs.Keys.{certificateLines}
+use Rattle.questions.specs.Claims.{_is_, pairwise, test}
+use Rattle.questions.specs.Asking.{askedFrom, firstOf}
+use Rattle.questions.proofs.Laws.{line-fails, line-passes, lines-pass}
+use Rattle.certificate.specs.declared.Refusal.the-variants.{Figure}
 use Rattle.certificate.specs.Questions.{foundOf}
-use Rattle.certificate.specs.Certificates.{valueAt}
-use Rattle.certificate.specs.Outcome.{agreeing}
 use Rattle.certificate.proofs.Shown.{integer-at}
-use Rattle.certificate.proofs.OutcomeSteps.{line-differs, line-agrees, lines-agree}
 use Rattle.certificate.proofs.certificates.first_unlike.Statement.{statement}
 use Rattle.certificate.proofs.certificates.first_unlike.Tie as tie
 
 abbrev Inv-loop : tie.InvT-loop
 Inv-loop shown worked i₀ i =
     (sheetLines ≤ i) × (i ≤ certificateLines)
-    × (firstOf (agreeing 13 (drop sheetLines (integers shown)) (drop sheetLines (integers worked))) ≡ firstOf (agreeing (i + 1) (drop i (integers shown)) (drop i (integers worked))))
+    × (firstOf (askedFrom Figure (sheetLines + 1) (pairwise _is_ (drop sheetLines (integers shown)) (drop sheetLines (integers worked)))) ≡ firstOf (askedFrom Figure (i + 1) (pairwise _is_ (drop i (integers shown)) (drop i (integers worked)))))
 
 abbrev μ-loop : tie.MeasureT-loop
 μ-loop shown worked i₀ i = certificateLines - i
@@ -84,7 +84,7 @@ module _ (c : tie.After-same Inv-loop μ-loop) where
   in-worked : i < length ws
   in-worked = omega (arith, below, counts start, length-map (start .args .t2) integer)
 
-  asked : c .same .result ≡ test (valueAt vs i is valueAt ws i)
+  asked : c .same .result ≡ test (getD vs i (pos 0) is getD ws i (pos 0))
   asked =
       rw (integer-at (start .args .t1) i none (omega (arith, below, counts start)), integer-at (start .args .t2) i none (omega (arith, below, counts start)))
       (c .same .ensures)
@@ -92,7 +92,7 @@ module _ (c : tie.After-same Inv-loop μ-loop) where
 returns : tie.Need-returns Inv-loop μ-loop
 returns c =
     let t = c .before in
-    sym (ap foundOf (turn t .before .loop .inv .2 ∙ line-differs (i t + 1) (vs t) (ws t) (i t) (in-shown t) (in-worked t) (sym (asked t) ∙ not-true _ (c .if1 .taken))))
+    sym (ap foundOf (turn t .before .loop .inv .2 ∙ line-fails _is_ Figure (i t + 1) (vs t) (ws t) (i t) (pos 0) (pos 0) (in-shown t) (in-worked t) (sym (asked t) ∙ not-true _ (c .if1 .taken))))
 
 add-i : tie.Need-add-i Inv-loop μ-loop
 add-i c = search needs
@@ -105,14 +105,14 @@ loop-again c =
     let t = c .before in (
       omega (arith, turn t .before .loop .inv .0),
       omega (arith, below t),
-      turn t .before .loop .inv .2 ∙ line-agrees (i t + 1) (vs t) (ws t) (i t) (in-shown t) (in-worked t) (sym (asked t) ∙ not-false _ (c .if1 .left)),
+      turn t .before .loop .inv .2 ∙ line-passes _is_ Figure (i t + 1) (vs t) (ws t) (i t) (pos 0) (pos 0) (in-shown t) (in-worked t) (sym (asked t) ∙ not-false _ (c .if1 .left)),
     )
 
 returns-2 : tie.Need-returns-2 Inv-loop μ-loop
 returns-2 c =
     let head = c .before in
     let a = head .before .args in
-    sym (ap foundOf (head .loop .inv .2 ∙ lines-agree (head .loop .i + 1) (integers (a .t1)) (integers (a .t2)) (head .loop .i) (omega (arith, counts (head .before), length-map (a .t1) integer, c .loop-test .left))))
+    sym (ap foundOf (head .loop .inv .2 ∙ lines-pass _is_ Figure (head .loop .i + 1) (integers (a .t1)) (integers (a .t2)) (head .loop .i) (omega (arith, counts (head .before), length-map (a .t1) integer, c .loop-test .left))))
 
 pub first-unlike-spec : {M : Type 1} → statement M
 first-unlike-spec =

@@ -4,7 +4,7 @@ use lib.ListN.{length}
 use Rattle.section.specs.declared.Sheet.{Sheet}
 use Rattle.certificate.specs.Outcome.{outcomeOf}
 use Rattle.questions.specs.Outcomes.{answerOf, bufferAfter}
-use Rattle.certificate.specs.Refusals.{told}
+use Rattle.certificate.specs.Refusals.{refusalAnswer}
 use borrow.Author.Needs.{needs}
 use Rattle.certificate.proofs.certificates.from_numbers.Statement.{statement}
 use Rattle.certificate.proofs.certificates.from_numbers.Tie as tie
@@ -23,7 +23,7 @@ returns c =
     let b = c .before .before .before .before .before .before .args .buffer .now in
     let q = c .before .before .before .before .sheet-of .ensures in
     let w = c .before .before .write-sheet .ensures in (
-      w .0 ∙ ap (λ (x : Sheet). answerOf told (outcomeOf x (length b))) q,
+      w .0 ∙ ap (λ (x : Sheet). answerOf refusalAnswer (outcomeOf x (length b))) q,
       w .1 ∙ ap (λ (x : Sheet). bufferAfter (outcomeOf x (length b)) b) q,
     )
 

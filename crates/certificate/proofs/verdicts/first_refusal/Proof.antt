@@ -1,7 +1,6 @@
 -- `certificate::verdicts::first_refusal` meets its contract.
 use Rattle.questions.specs.Asking.{firstOf}
 use Rattle.certificate.specs.Questions.{question2}
-use Rattle.certificate.specs.Certificates.{values}
 use Rattle.certificate.proofs.Steps.{found-met, refused-second, passed-second, in-range}
 use borrow.Author.Needs.{needs}
 use Rattle.certificate.proofs.verdicts.first_refusal.Statement.{statement}
@@ -16,21 +15,18 @@ enum-known-found c = search needs
 enum-told : tie.Need-enum-told
 enum-told c = search needs
 
-thickness-requires : tie.Need-thickness-requires
-unfolding question2 values
-thickness-requires c κs =
-    let q = c .before .before .before .before .before .args .q in
+from-third-requires : tie.Need-from-third-requires
+from-third-requires c κs =
+    let q = c .before .before .before .args .q in
     in-range q (found-met (firstOf (question2 q)) (c .before .before .range .ensures) (c .enum-told .given .1))
 
 returns : tie.Need-returns
-unfolding question2 values
 returns c = refused-second _ (c .before .before .before .range .ensures) (c .before .found .given .1)
 
 returns-2 : tie.Need-returns-2
-unfolding question2 values
-returns-2 c = passed-second _ (c .before .before .before .range .ensures) (c .before .enum-told .given .1) (c .thickness .ensures .first)
+returns-2 c = passed-second _ (c .before .before .before .range .ensures) (c .before .enum-told .given .1) (c .from-third .ensures .first)
 
 pub first-refusal-spec : {M : Type 1} → statement M
 first-refusal-spec =
     tie.close
-    (tie.spec range-requires enum-known-found enum-told thickness-requires returns returns-2)
+    (tie.spec range-requires enum-known-found enum-told from-third-requires returns returns-2)

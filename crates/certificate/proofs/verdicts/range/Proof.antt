@@ -5,27 +5,38 @@ use lib.ListN.{length, drop}
 use borrow.Author.Tests.{not-true, not-false}
 use borrow.Author.Needs.{needs}
 use native.Mathlib.Omega.{arith}
-use Rattle.section.specs.declared.Span.{Span}
-use Rattle.questions.specs.Asking.{firstOf}
-use Rattle.certificate.specs.Questions.{ranges, ranged, foundOf}
-use Rattle.certificate.proofs.Ranges.{out-of-range, in-range, all-in-range}
+use Rattle.section.specs.declared.Sheet.{Sheet}
+use Rattle.section.specs.Sheets.{sheetLines, valuesOf}
+use Rattle.questions.specs.Claims.{pairwise}
+use Rattle.questions.specs.Asking.{askedFrom, firstOf}
+use Rattle.questions.proofs.Laws.{line-fails, line-passes, lines-pass}
+use Rattle.certificate.specs.declared.Refusal.the-variants.{Range}
+use Rattle.certificate.specs.declared.verdicts.Span.{Span}
+use Rattle.certificate.specs.Questions.{question2, foundOf, spanned}
+use Rattle.certificate.proofs.Steps.{found-by-spans}
 use Rattle.certificate.proofs.verdicts.range.Statement.{statement}
 use Rattle.certificate.proofs.verdicts.range.Tie as tie
 
 abbrev Inv-loop : tie.InvT-loop
-Inv-loop values spans i₀ i = (i ≤ 12) × (firstOf (ranged 1 ranges values) ≡ firstOf (ranged (i + 1) (drop i ranges) (drop i values)))
+Inv-loop values spans i₀ i =
+    (i ≤ sheetLines)
+    × ((q : Sheet) → values ≡ valuesOf q → firstOf (question2 q) ≡ firstOf (askedFrom Range (i + 1) (pairwise spanned (drop i spans) (drop i values))))
 
 abbrev μ-loop : tie.MeasureT-loop
-μ-loop values spans i₀ i = 12 - i
+μ-loop values spans i₀ i = sheetLines - i
 
+-- a span that no index within the table reads
 abbrev none : Span
 none = record { least = 0; most = 0 }
 
-count : (c : tie.Start Inv-loop μ-loop) → length (c .args .t1) ≡ 12
-count c = search needs
+values-of-requires : tie.Need-values-of-requires Inv-loop μ-loop
+values-of-requires c κs = search needs
 
 loop-holds : tie.Need-loop-holds Inv-loop μ-loop
-loop-holds c = (omega arith, refl)
+loop-holds c = (omega arith, λ q e. found-by-spans q _ refl e)
+
+count : (c : tie.After-values-of Inv-loop μ-loop) → length (c .values-of .result) ≡ sheetLines
+count c = search needs
 
 mul-span : tie.Need-mul-span Inv-loop μ-loop
 mul-span c = search needs
@@ -46,13 +57,13 @@ add-line : tie.Need-add-line Inv-loop μ-loop
 add-line c = search needs
 
 returns : tie.Need-returns Inv-loop μ-loop
-unfolding ranges
 returns c =
     let turn = c .before .before .before in
     let head = turn .before in
-    let values = head .before .args .t1 in
     let below = turn .loop-test .taken in
-    sym (ap foundOf (head .loop .inv .1 ∙ out-of-range (head .loop .i + 1) ranges values (head .loop .i) none below (omega (arith, count (head .before), below)) (sym (c .before .within .ensures) ∙ not-true _ (c .if1 .taken))))
+    let found = head .loop .inv .1 (head .before .before .args .q) (head .before .values-of .ensures) in
+    sym (ap foundOf
+    (found ∙ line-fails spanned Range (head .loop .i + 1) _ (head .before .values-of .result) (head .loop .i) none 0 below (omega (arith, count (head .before), below)) (sym (c .before .within .ensures) ∙ not-true _ (c .if1 .taken))))
 
 add-i : tie.Need-add-i Inv-loop μ-loop
 add-i c = search needs
@@ -61,19 +72,19 @@ loop-less : tie.Need-loop-less Inv-loop μ-loop
 loop-less c = search needs
 
 loop-again : tie.Need-loop-again Inv-loop μ-loop
-unfolding ranges
 loop-again c =
     let turn = c .before .before .before in
     let head = turn .before in
-    let values = head .before .args .t1 in
-    let below = turn .loop-test .taken in
-    (omega (arith, below), head .loop .inv .1 ∙ in-range (head .loop .i + 1) ranges values (head .loop .i) none below (omega (arith, count (head .before), below)) (sym (c .before .within .ensures) ∙ not-false _ (c .if1 .left)))
+    let below = turn .loop-test .taken in (
+      omega (arith, below),
+      λ q e. head .loop .inv .1 q e ∙ line-passes spanned Range (head .loop .i + 1) _ (head .before .values-of .result) (head .loop .i) none 0 below (omega (arith, count (head .before), below)) (sym (c .before .within .ensures) ∙ not-false _ (c .if1 .left)),
+    )
 
 returns-2 : tie.Need-returns-2 Inv-loop μ-loop
-unfolding ranges
 returns-2 c =
     let head = c .before in
-    sym (ap foundOf (head .loop .inv .1 ∙ all-in-range (head .loop .i + 1) ranges (head .before .args .t1) (head .loop .i) (c .loop-test .left)))
+    let found = head .loop .inv .1 (head .before .before .args .q) (head .before .values-of .ensures) in
+    sym (ap foundOf (found ∙ lines-pass spanned Range (head .loop .i + 1) _ (head .before .values-of .result) (head .loop .i) (c .loop-test .left)))
 
 pub range-spec : {M : Type 1} → statement M
 range-spec =
@@ -81,6 +92,7 @@ range-spec =
     (tie.spec
     Inv-loop
     μ-loop
+    values-of-requires
     loop-holds
     mul-span
     array-copy-out-span

@@ -12,12 +12,9 @@ mul-exact c = record { fits = exact-out (c .args .s) (c .args .a) (c .args .b) (
 div-exact : tie.Need-div-exact
 div-exact c = omega (arith, exact-out (c .args .s) (c .args .a) (c .args .b) (c .pre) .0)
 
-exact-requires : tie.Need-exact-requires
-exact-requires c κs = search needs
-
 returns : tie.Need-returns
 unfolding ratio
 returns c = c .exact .ensures
 
 pub ratio-spec : {M : Type 1} → statement M
-ratio-spec = tie.close (tie.spec mul-exact div-exact exact-requires returns)
+ratio-spec = tie.close (tie.spec mul-exact div-exact (λ c κs. search needs) returns)

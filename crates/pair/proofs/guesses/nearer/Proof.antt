@@ -6,22 +6,10 @@ use borrow.Author.Needs.{needs}
 use Rattle.pair.proofs.guesses.nearer.Statement.{statement}
 use Rattle.pair.proofs.guesses.nearer.Tie as tie
 
-upper-requires : tie.Need-upper-requires
-upper-requires c κs = search needs
-
-upper-requires-2 : tie.Need-upper-requires-2
-upper-requires-2 c κs = search needs
-
-sub-rest : tie.Need-sub-rest
-sub-rest c = search needs
-
 mul-result : tie.Need-mul-result
 mul-result c =
     let start = c .before .before in
     omega (arith, halves {x = start .args .y} {y = (0x1_C000_0000 - c .upper2 .result) % 0x1_0000_0000} (start .pre .1) (omega arith))
 
-returns : tie.Need-returns
-returns c = search needs
-
 pub nearer-spec : {M : Type 1} → statement M
-nearer-spec = tie.close (tie.spec upper-requires upper-requires-2 sub-rest mul-result returns)
+nearer-spec = tie.close (tie.spec (λ c κs. search needs) (λ c κs. search needs) (λ c. search needs) mul-result (λ c. search needs))

@@ -29,23 +29,11 @@ loop-holds c =
     let n = c .args .n in
     (record { sum = omega (arith, nothing-above n n ((66 - leadingZeros 64 n) / 3 * 3) (omega arith) (c .fits .n .fits) (omega (arith, leading-le 64 n))); small = omega arith; triple = omega arith }, omega (arith, leading-le 64 n), omega (arith, leading-le 64 n))
 
-sub-at-2 : tie.Need-sub-at-2 Inv-loop μ-loop
-sub-at-2 c = omega arith
-
-cast-cube-step : tie.Need-cast-cube-step Inv-loop μ-loop
-cast-cube-step c = omega arith
-
-shr-cube-step : tie.Need-shr-cube-step Inv-loop μ-loop
-shr-cube-step c = omega arith
-
 cube-step-requires : tie.Need-cube-step-requires Inv-loop μ-loop
 cube-step-requires c κs =
     let loop = c .before .loop in
     let n = c .before .before .args .n in
     (loop .inv .0 .triple, loop .inv .0 .small, omega (arith, cube-lt (2 ^ 22) (lt-of-lt-of-le (lt-of-le-of-lt (shr-le n (loop .at)) (c .before .before .fits .n .fits)) (lit≤ tt)) (loop .inv .0)), omega arith)
-
-loop-less : tie.Need-loop-less Inv-loop μ-loop
-loop-less c = omega arith
 
 loop-again : tie.Need-loop-again Inv-loop μ-loop
 loop-again c =
@@ -59,16 +47,5 @@ returns c = cube-restated (all-digits (c .before .before .args .n) (c .before .l
 pub cube-of-spec : {M : Type 1} → statement M
 cube-of-spec =
     tie.close
-    (tie.spec
-    Inv-loop
-    μ-loop
-    sub-at
-    mul-at
-    loop-holds
-    sub-at-2
-    cast-cube-step
-    shr-cube-step
-    cube-step-requires
-    loop-less
-    loop-again
-    returns)
+    (tie.spec Inv-loop μ-loop sub-at mul-at loop-holds (λ c. omega arith) (λ c. omega arith) (λ c. omega arith) cube-step-requires (λ c. omega arith)
+    loop-again returns)

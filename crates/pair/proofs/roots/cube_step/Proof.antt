@@ -23,9 +23,6 @@ mul-odd c =
     let start = c .before .before in
     omega (arith, cube-room (start .pre .0) (start .pre .2))
 
-mul-odd-2 : tie.Need-mul-odd-2
-mul-odd-2 c = search needs
-
 add-odd : tie.Need-add-odd
 add-odd c =
     let start = c .before .before .before in
@@ -35,12 +32,6 @@ add-odd-2 : tie.Need-add-odd-2
 add-odd-2 c =
     let start = c .before .before .before in
     omega (arith, cube-room (start .pre .0) (start .pre .2))
-
-mul-t6 : tie.Need-mul-t6
-mul-t6 c = search needs
-
-pick-requires : tie.Need-pick-requires
-pick-requires c κs = search needs
 
 add-t7 : tie.Need-add-t7
 add-t7 c =
@@ -53,23 +44,11 @@ mul-t9 c =
     let start = c .before .before .before .before .before .before in
     omega (arith, cube-room (start .pre .0) (start .pre .2))
 
-mul-pick : tie.Need-mul-pick
-mul-pick c = search needs
-
-add-pick : tie.Need-add-pick
-add-pick c = search needs
-
-pick-requires-2 : tie.Need-pick-requires-2
-pick-requires-2 c κs = search needs
-
 add-t13 : tie.Need-add-t13
 add-t13 c =
     let start = c .before .before .before .before .before .before .before .before in
     let one = leb (start .args .t .triple * 4 + start .args .t .root * 6 + 1) (start .args .t .rest * 8 + start .args .digit) in
     omega (arith, cube-room (start .pre .0) (start .pre .2), le-trans (le-of-eq (c .pick2 .ensures)) (chosen-le one {a = start .args .t .root * 12 + 3} {b = 0} {k = start .args .t .root * 12 + 3} (omega arith) (omega arith)))
-
-pick-requires-3 : tie.Need-pick-requires-3
-pick-requires-3 c κs = search needs
 
 sub-t15 : tie.Need-sub-t15
 sub-t15 c = le-trans (le-of-eq (c .pick3 .ensures)) (taken-le _ _)
@@ -83,21 +62,5 @@ returns c =
 pub cube-step-spec : {M : Type 1} → statement M
 cube-step-spec =
     tie.close
-    (tie.spec
-    mul-part
-    add-part
-    mul-odd
-    mul-odd-2
-    add-odd
-    add-odd-2
-    mul-t6
-    pick-requires
-    add-t7
-    mul-t9
-    mul-pick
-    add-pick
-    pick-requires-2
-    add-t13
-    pick-requires-3
-    sub-t15
-    returns)
+    (tie.spec mul-part add-part mul-odd (λ c. search needs) add-odd add-odd-2 (λ c. search needs) (λ c κs. search needs) add-t7 mul-t9
+    (λ c. search needs) (λ c. search needs) (λ c κs. search needs) add-t13 (λ c κs. search needs) sub-t15 returns)

@@ -6,9 +6,6 @@ use borrow.Author.Needs.{needs}
 use Rattle.pair.proofs.roots.cube_up.Statement.{statement}
 use Rattle.pair.proofs.roots.cube_up.Tie as tie
 
-scaled-cube-requires : tie.Need-scaled-cube-requires
-scaled-cube-requires c κs = search needs
-
 add-result : tie.Need-add-result
 add-result c = omega (arith, cube-fits (omega (arith, c .before .before .before .before .pre .1)) (c .before .before .before .scaled-cube .ensures))
 
@@ -19,4 +16,4 @@ returns-2 : tie.Need-returns-2
 returns-2 c = cube-up-past (c .before .before .before .scaled-cube .ensures) (c .before .if1 .left)
 
 pub cube-up-spec : {M : Type 1} → statement M
-cube-up-spec = tie.close (tie.spec scaled-cube-requires add-result returns returns-2)
+cube-up-spec = tie.close (tie.spec (λ c κs. search needs) add-result returns returns-2)

@@ -13,9 +13,6 @@ mul-cube-of c = record { fits = factor-fits (c .args .v) (c .args .s / 64) (omeg
 mul-cube-of-2 : tie.Need-mul-cube-of-2
 mul-cube-of-2 c = omega (arith, by-4096 (c .args .v) (c .args .s) (c .pre .0), c .pre .1)
 
-cube-of-requires : tie.Need-cube-of-requires
-cube-of-requires c κs = search needs
-
 cube-step-requires : tie.Need-cube-step-requires
 cube-step-requires c κs =
     let start = c .before in
@@ -45,12 +42,5 @@ returns c =
 pub scaled-cube-spec : {M : Type 1} → statement M
 scaled-cube-spec =
     tie.close
-    (tie.spec
-    mul-cube-of
-    mul-cube-of-2
-    cube-of-requires
-    cube-step-requires
-    cube-step-requires-2
-    cube-step-requires-3
-    cube-step-requires-4
+    (tie.spec mul-cube-of mul-cube-of-2 (λ c κs. search needs) cube-step-requires cube-step-requires-2 cube-step-requires-3 cube-step-requires-4
     returns)

@@ -6,25 +6,13 @@ use borrow.Author.Needs.{needs}
 use Rattle.pair.proofs.roots.scaled_square.Statement.{statement}
 use Rattle.pair.proofs.roots.scaled_square.Tie as tie
 
-high-requires : tie.Need-high-requires
-high-requires c κs = search needs
-
 mul-square-of : tie.Need-mul-square-of
 mul-square-of c = record { fits = low-word (c .before .high .ensures) (c .if1 .taken) }
-
-square-of-requires : tie.Need-square-of-requires
-square-of-requires c κs = search needs
-
-returns : tie.Need-returns
-returns c = search needs
 
 mul-square-of-2 : tie.Need-mul-square-of-2
 mul-square-of-2 c =
     let start = c .before .before in
     omega (arith, by-64 (start .args .v) (start .args .s) (start .pre .0), start .pre .1)
-
-square-of-requires-2 : tie.Need-square-of-requires-2
-square-of-requires-2 c κs = search needs
 
 by-64-requires : tie.Need-by-64-requires
 by-64-requires c κs =
@@ -39,12 +27,5 @@ returns-2 c =
 pub scaled-square-spec : {M : Type 1} → statement M
 scaled-square-spec =
     tie.close
-    (tie.spec
-    high-requires
-    mul-square-of
-    square-of-requires
-    returns
-    mul-square-of-2
-    square-of-requires-2
-    by-64-requires
+    (tie.spec (λ c κs. search needs) mul-square-of (λ c κs. search needs) (λ c. search needs) mul-square-of-2 (λ c κs. search needs) by-64-requires
     returns-2)

@@ -6,23 +6,11 @@ use borrow.Author.Needs.{needs}
 use Rattle.pair.proofs.roots.scaled_squares.Statement.{statement}
 use Rattle.pair.proofs.roots.scaled_squares.Tie as tie
 
-high-requires : tie.Need-high-requires
-high-requires c κs = search needs
-
-high-requires-2 : tie.Need-high-requires-2
-high-requires-2 c κs = search needs
-
 mul-squares-of : tie.Need-mul-squares-of
 mul-squares-of c = record { fits = low-word (c .before .before .before .high .ensures) (c .before .before .if1 .taken) }
 
 mul-squares-of-2 : tie.Need-mul-squares-of-2
 mul-squares-of-2 c = record { fits = low-word (c .before .high2 .ensures) (c .if2 .taken) }
-
-squares-of-requires : tie.Need-squares-of-requires
-squares-of-requires c κs = search needs
-
-returns : tie.Need-returns
-returns c = search needs
 
 mul-squares-of-3 : tie.Need-mul-squares-of-3
 mul-squares-of-3 c =
@@ -33,9 +21,6 @@ mul-squares-of-4 : tie.Need-mul-squares-of-4
 mul-squares-of-4 c =
     let start = c .before .before in
     omega (arith, by-64 (start .args .w) (start .args .s) (start .pre .0), start .pre .2)
-
-squares-of-requires-2 : tie.Need-squares-of-requires-2
-squares-of-requires-2 c κs = search needs
 
 by-64-requires : tie.Need-by-64-requires
 by-64-requires c κs =
@@ -58,16 +43,5 @@ returns-2 c =
 pub scaled-squares-spec : {M : Type 1} → statement M
 scaled-squares-spec =
     tie.close
-    (tie.spec
-    high-requires
-    high-requires-2
-    mul-squares-of
-    mul-squares-of-2
-    squares-of-requires
-    returns
-    mul-squares-of-3
-    mul-squares-of-4
-    squares-of-requires-2
-    by-64-requires
-    by-64-requires-2
-    returns-2)
+    (tie.spec (λ c κs. search needs) (λ c κs. search needs) mul-squares-of mul-squares-of-2 (λ c κs. search needs) (λ c. search needs)
+    mul-squares-of-3 mul-squares-of-4 (λ c κs. search needs) by-64-requires by-64-requires-2 returns-2)

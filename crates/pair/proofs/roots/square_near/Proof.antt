@@ -9,37 +9,16 @@ use borrow.Author.Needs.{needs}
 use Rattle.pair.proofs.roots.square_near.Statement.{statement}
 use Rattle.pair.proofs.roots.square_near.Tie as tie
 
-square-root-requires : tie.Need-square-root-requires
-square-root-requires c κs = search needs
-
 mul-square : tie.Need-mul-square
 mul-square c =
     let g = c .square-root .result in
     omega (arith, halves {x = g} {y = g} (c .square-root .ensures) (c .square-root .ensures))
-
-returns : tie.Need-returns
-returns c = search needs
-
-mul-more : tie.Need-mul-more
-mul-more c = search needs
-
-pick-requires : tie.Need-pick-requires
-pick-requires c κs = search needs
 
 add-t8 : tie.Need-add-t8
 add-t8 c =
     let g = c .before .before .square-root in
     let more = ltb (g .result * 2) (c .before .before .before .args .n - g .result * g .result) in
     omega (arith, g .ensures, le-trans (le-of-eq (c .pick .ensures)) (chosen-le more {a = 1} {b = 0} {k = 1} (omega arith) (omega arith)))
-
-mul-pick : tie.Need-mul-pick
-mul-pick c = search needs
-
-add-pick : tie.Need-add-pick
-add-pick c = search needs
-
-pick-requires-2 : tie.Need-pick-requires-2
-pick-requires-2 c κs = search needs
 
 sub-t12 : tie.Need-sub-t12
 sub-t12 c =
@@ -57,15 +36,5 @@ returns-2 c =
 pub square-near-spec : {M : Type 1} → statement M
 square-near-spec =
     tie.close
-    (tie.spec
-    square-root-requires
-    mul-square
-    returns
-    mul-more
-    pick-requires
-    add-t8
-    mul-pick
-    add-pick
-    pick-requires-2
-    sub-t12
-    returns-2)
+    (tie.spec (λ c κs. search needs) mul-square (λ c. search needs) (λ c. search needs) (λ c κs. search needs) add-t8 (λ c. search needs)
+    (λ c. search needs) (λ c κs. search needs) sub-t12 returns-2)

@@ -8,32 +8,11 @@ use borrow.Author.Needs.{needs}
 use Rattle.pair.proofs.roots.square_step.Statement.{statement}
 use Rattle.pair.proofs.roots.square_step.Tie as tie
 
-mul-part : tie.Need-mul-part
-mul-part c = search needs
-
-add-part : tie.Need-add-part
-add-part c = search needs
-
-mul-odd : tie.Need-mul-odd
-mul-odd c = search needs
-
-add-odd : tie.Need-add-odd
-add-odd c = search needs
-
-mul-t6 : tie.Need-mul-t6
-mul-t6 c = search needs
-
-pick-requires : tie.Need-pick-requires
-pick-requires c κs = search needs
-
 add-t8 : tie.Need-add-t8
 add-t8 c =
     let t = c .before .before .before .before .args .t in
     let one = leb (t .root * 4 + 1) (t .rest * 4 + c .before .before .before .before .args .digit) in
     omega (arith, le-trans (le-of-eq (c .pick .ensures)) (chosen-le one {a = 1} {b = 0} {k = 1} (omega arith) (omega arith)))
-
-pick-requires-2 : tie.Need-pick-requires-2
-pick-requires-2 c κs = search needs
 
 sub-t10 : tie.Need-sub-t10
 sub-t10 c = le-trans (le-of-eq (c .pick2 .ensures)) (taken-le _ _)
@@ -46,14 +25,5 @@ returns c =
 pub square-step-spec : {M : Type 1} → statement M
 square-step-spec =
     tie.close
-    (tie.spec
-    mul-part
-    add-part
-    mul-odd
-    add-odd
-    mul-t6
-    pick-requires
-    add-t8
-    pick-requires-2
-    sub-t10
-    returns)
+    (tie.spec (λ c. search needs) (λ c. search needs) (λ c. search needs) (λ c. search needs) (λ c. search needs) (λ c κs. search needs) add-t8
+    (λ c κs. search needs) sub-t10 returns)

@@ -6,9 +6,6 @@ use borrow.Author.Needs.{needs}
 use Rattle.pair.proofs.roots.square_up.Statement.{statement}
 use Rattle.pair.proofs.roots.square_up.Tie as tie
 
-scaled-square-requires : tie.Need-scaled-square-requires
-scaled-square-requires c κs = search needs
-
 add-result : tie.Need-add-result
 add-result c = omega (arith, square-fits (c .before .before .before .before .pre .1) (c .before .before .before .scaled-square .ensures))
 
@@ -19,4 +16,4 @@ returns-2 : tie.Need-returns-2
 returns-2 c = square-up-past (c .before .before .before .scaled-square .ensures) (c .before .if1 .left)
 
 pub square-up-spec : {M : Type 1} → statement M
-square-up-spec = tie.close (tie.spec scaled-square-requires add-result returns returns-2)
+square-up-spec = tie.close (tie.spec (λ c κs. search needs) add-result returns returns-2)

@@ -40,9 +40,6 @@ none-taken : (m x : ℕ) → m ≤ x → x < 2 ^ 64 → SquareRooted (m / 2 ^ ((
 none-taken m x g h =
     record { sum = omega (arith, nothing-above m x ((65 - leadingZeros 64 x) / 2 * 2) g h (omega (arith, leading-le 64 x))); small = omega arith }
 
-pick-requires : tie.Need-pick-requires Inv-loop μ-loop
-pick-requires c κs = search needs
-
 sub-at : tie.Need-sub-at Inv-loop μ-loop
 sub-at c = omega (arith, leading-le 64 (c .pick .result))
 
@@ -57,15 +54,6 @@ loop-holds c =
     let l = larger m n x (c .before .fits .m .fits) (c .before .fits .n .fits) (c .pick .ensures) in
     (none-taken m x (l .0) (l .2), none-taken n x (l .1) (l .2), omega (arith, leading-le 64 x), omega (arith, leading-le 64 x))
 
-sub-at-2 : tie.Need-sub-at-2 Inv-loop μ-loop
-sub-at-2 c = omega arith
-
-cast-square-step : tie.Need-cast-square-step Inv-loop μ-loop
-cast-square-step c = omega arith
-
-shr-square-step : tie.Need-shr-square-step Inv-loop μ-loop
-shr-square-step c = omega arith
-
 square-step-requires : tie.Need-square-step-requires Inv-loop μ-loop
 square-step-requires c κs =
     let loop = c .before .loop in
@@ -73,21 +61,12 @@ square-step-requires c κs =
     let r = ready (start .args .m) (loop .at) _ _ (start .fits .m .fits) (loop .inv .0) in
     (r .0, r .1, omega arith)
 
-cast-square-step-2 : tie.Need-cast-square-step-2 Inv-loop μ-loop
-cast-square-step-2 c = omega arith
-
-shr-square-step-2 : tie.Need-shr-square-step-2 Inv-loop μ-loop
-shr-square-step-2 c = omega arith
-
 square-step-requires-2 : tie.Need-square-step-requires-2 Inv-loop μ-loop
 square-step-requires-2 c κs =
     let loop = c .before .before .loop in
     let start = c .before .before .before .before in
     let r = ready (start .args .n) (loop .at) _ _ (start .fits .n .fits) (loop .inv .1) in
     (r .0, r .1, omega arith)
-
-loop-less : tie.Need-loop-less Inv-loop μ-loop
-loop-less c = omega arith
 
 loop-again : tie.Need-loop-again Inv-loop μ-loop
 loop-again c =
@@ -110,20 +89,5 @@ returns c =
 pub squares-by-bits-spec : {M : Type 1} → statement M
 squares-by-bits-spec =
     tie.close
-    (tie.spec
-    Inv-loop
-    μ-loop
-    pick-requires
-    sub-at
-    mul-at
-    loop-holds
-    sub-at-2
-    cast-square-step
-    shr-square-step
-    square-step-requires
-    cast-square-step-2
-    shr-square-step-2
-    square-step-requires-2
-    loop-less
-    loop-again
-    returns)
+    (tie.spec Inv-loop μ-loop (λ c κs. search needs) sub-at mul-at loop-holds (λ c. omega arith) (λ c. omega arith) (λ c. omega arith)
+    square-step-requires (λ c. omega arith) (λ c. omega arith) square-step-requires-2 (λ c. omega arith) loop-again returns)

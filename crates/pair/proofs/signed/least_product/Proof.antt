@@ -22,9 +22,6 @@ floor-product-requires-2 c κs =
     let s = c .before .before .before .before .before in
     times-word (room s) (low-reach (s .args .a)) (high-reach (s .args .b))
 
-least-requires : tie.Need-least-requires
-least-requires c κs = search needs
-
 floor-product-requires-3 : tie.Need-floor-product-requires-3
 floor-product-requires-3 c κs =
     let s = c .before .before .before .before .before .before .before in
@@ -34,12 +31,6 @@ floor-product-requires-4 : tie.Need-floor-product-requires-4
 floor-product-requires-4 c κs =
     let s = c .before .before .before .before .before .before .before .before in
     times-word (room s) (high-reach (s .args .a)) (high-reach (s .args .b))
-
-least-requires-2 : tie.Need-least-requires-2
-least-requires-2 c κs = search needs
-
-least-requires-3 : tie.Need-least-requires-3
-least-requires-3 c κs = search needs
 
 returns : tie.Need-returns
 unfolding signedTimes meaning
@@ -53,12 +44,5 @@ returns c =
 pub least-product-spec : {M : Type 1} → statement M
 least-product-spec =
     tie.close
-    (tie.spec
-    floor-product-requires
-    floor-product-requires-2
-    least-requires
-    floor-product-requires-3
-    floor-product-requires-4
-    least-requires-2
-    least-requires-3
-    returns)
+    (tie.spec floor-product-requires floor-product-requires-2 (λ c κs. search needs) floor-product-requires-3 floor-product-requires-4
+    (λ c κs. search needs) (λ c κs. search needs) returns)

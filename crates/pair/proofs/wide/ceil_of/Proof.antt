@@ -8,22 +8,13 @@ use borrow.Author.Needs.{needs}
 use Rattle.pair.proofs.wide.ceil_of.Statement.{statement}
 use Rattle.pair.proofs.wide.ceil_of.Tie as tie
 
-high-requires : tie.Need-high-requires
-high-requires c κs = search needs
-
 mul-n : tie.Need-mul-n
 mul-n c = record { fits = low-word (c .before .high .ensures) (c .if1 .taken) }
-
-pick-requires : tie.Need-pick-requires
-pick-requires c κs = search needs
 
 sub-result : tie.Need-sub-result
 sub-result c =
     let start = c .before .before .before in
     ceil-by-one-less (start .args .a * start .args .b) (start .pre .0) (c .pick .ensures) .0
-
-div-result : tie.Need-div-result
-div-result c = search needs
 
 add-result : tie.Need-add-result
 add-result c =
@@ -53,15 +44,5 @@ returns-3 c = ceil-above (c .before .before .before .parts-by .ensures) (c .befo
 pub ceil-of-spec : {M : Type 1} → statement M
 ceil-of-spec =
     tie.close
-    (tie.spec
-    high-requires
-    mul-n
-    pick-requires
-    sub-result
-    div-result
-    add-result
-    returns
-    parts-by-requires
-    add-result-2
-    returns-2
-    returns-3)
+    (tie.spec (λ c κs. search needs) mul-n (λ c κs. search needs) sub-result (λ c. search needs) add-result returns parts-by-requires add-result-2
+    returns-2 returns-3)

@@ -4,11 +4,8 @@ use borrow.Author.Needs.{needs}
 use Rattle.pair.proofs.wide.floor_of.Statement.{statement}
 use Rattle.pair.proofs.wide.floor_of.Tie as tie
 
-product-by-requires : tie.Need-product-by-requires
-product-by-requires c κs = search needs
-
 returns : tie.Need-returns
 returns c = is-quotient (c .product-by .ensures)
 
 pub floor-of-spec : {M : Type 1} → statement M
-floor-of-spec = tie.close (tie.spec product-by-requires returns)
+floor-of-spec = tie.close (tie.spec (λ c κs. search needs) returns)

@@ -5,14 +5,8 @@ use borrow.Author.Needs.{needs}
 use Rattle.pair.proofs.wide.parts_by.Statement.{statement}
 use Rattle.pair.proofs.wide.parts_by.Tie as tie
 
-rem-reduced : tie.Need-rem-reduced
-rem-reduced c = search needs
-
 reduced-requires : tie.Need-reduced-requires
 reduced-requires c κs = mod-lt (c .args .a) (c .pre .0)
-
-div-t5 : tie.Need-div-t5
-div-t5 c = search needs
 
 mul-t6 : tie.Need-mul-t6
 mul-t6 c =
@@ -30,4 +24,4 @@ returns c =
     product-split (start .args .a) (start .args .b) (start .args .d) (c .before .reduced .ensures)
 
 pub parts-by-spec : {M : Type 1} → statement M
-parts-by-spec = tie.close (tie.spec rem-reduced reduced-requires div-t5 mul-t6 add-t7 returns)
+parts-by-spec = tie.close (tie.spec (λ c. search needs) reduced-requires (λ c. search needs) mul-t6 add-t7 returns)

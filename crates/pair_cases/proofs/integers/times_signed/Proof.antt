@@ -4,18 +4,8 @@ use borrow.Author.Needs.{needs}
 use Rattle.pair_cases.proofs.integers.times_signed.Statement.{statement}
 use Rattle.pair_cases.proofs.integers.times_signed.Tie as tie
 
-signed-times-fits-requires : tie.Need-signed-times-fits-requires
-signed-times-fits-requires c κs = search needs
-
 times-signed-requires : tie.Need-times-signed-requires
 times-signed-requires c κs = sym (c .before .signed-times-fits .ensures) ∙ c .if1 .taken
 
-returns : tie.Need-returns
-returns c = search needs
-
-returns-2 : tie.Need-returns-2
-returns-2 c = search needs
-
 pub times-signed-spec : {M : Type 1} → statement M
-times-signed-spec =
-    tie.close (tie.spec signed-times-fits-requires times-signed-requires returns returns-2)
+times-signed-spec = tie.close (tie.spec (λ c κs. search needs) times-signed-requires (λ c. search needs) (λ c. search needs))

@@ -4,17 +4,8 @@ use borrow.Author.Needs.{needs}
 use Rattle.pair_cases.proofs.pairs.over.Statement.{statement}
 use Rattle.pair_cases.proofs.pairs.over.Tie as tie
 
-over-fits-requires : tie.Need-over-fits-requires
-over-fits-requires c κs = search needs
-
 over-requires : tie.Need-over-requires
 over-requires c κs = sym (c .before .over-fits .ensures) ∙ c .if1 .taken
 
-returns : tie.Need-returns
-returns c = search needs
-
-returns-2 : tie.Need-returns-2
-returns-2 c = search needs
-
 pub over-spec : {M : Type 1} → statement M
-over-spec = tie.close (tie.spec over-fits-requires over-requires returns returns-2)
+over-spec = tie.close (tie.spec (λ c κs. search needs) over-requires (λ c. search needs) (λ c. search needs))

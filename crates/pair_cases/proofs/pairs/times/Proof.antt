@@ -4,17 +4,8 @@ use borrow.Author.Needs.{needs}
 use Rattle.pair_cases.proofs.pairs.times.Statement.{statement}
 use Rattle.pair_cases.proofs.pairs.times.Tie as tie
 
-times-fits-requires : tie.Need-times-fits-requires
-times-fits-requires c κs = search needs
-
 times-requires : tie.Need-times-requires
 times-requires c κs = sym (c .before .times-fits .ensures) ∙ c .if1 .taken
 
-returns : tie.Need-returns
-returns c = search needs
-
-returns-2 : tie.Need-returns-2
-returns-2 c = search needs
-
 pub times-spec : {M : Type 1} → statement M
-times-spec = tie.close (tie.spec times-fits-requires times-requires returns returns-2)
+times-spec = tie.close (tie.spec (λ c κs. search needs) times-requires (λ c. search needs) (λ c. search needs))

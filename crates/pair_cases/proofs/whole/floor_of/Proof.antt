@@ -5,17 +5,8 @@ use borrow.Author.Needs.{needs}
 use Rattle.pair_cases.proofs.whole.floor_of.Statement.{statement}
 use Rattle.pair_cases.proofs.whole.floor_of.Tie as tie
 
-floor-fits-requires : tie.Need-floor-fits-requires
-floor-fits-requires c κs = search needs
-
 floor-of-requires : tie.Need-floor-of-requires
 floor-of-requires c κs = quotient-out _ _ (sym (c .before .floor-fits .ensures) ∙ c .if1 .taken)
 
-returns : tie.Need-returns
-returns c = search needs
-
-returns-2 : tie.Need-returns-2
-returns-2 c = search needs
-
 pub floor-of-spec : {M : Type 1} → statement M
-floor-of-spec = tie.close (tie.spec floor-fits-requires floor-of-requires returns returns-2)
+floor-of-spec = tie.close (tie.spec (λ c κs. search needs) floor-of-requires (λ c. search needs) (λ c. search needs))

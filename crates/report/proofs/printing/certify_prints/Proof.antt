@@ -4,13 +4,14 @@ use Prim.Native.Nat.{ℕ}
 use mathlib.Core.List.{List}
 use mathlib.Core.Path.{_≡_, sym, ap, _∙_}
 use lib.ListN.{length}
-use Rattle.text.specs.Keys.{certificateLines}
-use Rattle.text.specs.Lines.{over, longest}
-use Rattle.text.proofs.Theorems.{longest-certificate}
+use Rattle.questions.specs.Buffers.{over}
+use Rattle.lines.specs.Texts.{longest}
+use Rattle.certificate.specs.Keys.{certificateFields}
+use Rattle.certificate.proofs.Laws.{longest-certificate}
 use Rattle.questions.specs.declared.Answer.{Answer}
 use Rattle.questions.specs.Outcomes.{Outcome, answerOf, bufferAfter}
 use Rattle.certificate.specs.declared.Refusal.{Refusal}
-use Rattle.certificate.specs.Refusals.{told}
+use Rattle.certificate.specs.Refusals.{refusalAnswer}
 use Rattle.certificate.specs.Outcome.{outcome}
 use Rattle.report.specs.Printed.{refusalLines, certifyPrints}
 use Rattle.report.proofs.Answers.{certificate-printed, refusal-printed}
@@ -18,7 +19,7 @@ use Rattle.report.proofs.printing.certify_prints.Statement.{statement}
 use Rattle.report.proofs.printing.certify_prints.Tie as tie
 
 -- the lent array takes every certificate
-room : (c : tie.After-write-arg) → length (c .before .before .args .out .now) ≡ longest certificateLines
+room : (c : tie.After-write-arg) → length (c .before .before .args .out .now) ≡ longest certificateFields
 room c = count ∙ sym longest-certificate
   where
     count : length (c .before .before .args .out .now) ≡ 273
@@ -39,10 +40,10 @@ module _ (c : tie.After-write) where
   B = c .before .before .before .args .out .now
 
   abbrev o : Outcome Refusal
-  o = outcome S (longest certificateLines)
+  o = outcome S (longest certificateFields)
 
-  answered : c .write .result ≡ answerOf told o
-  answered = c .write .ensures .0 ∙ ap (λ (n : ℕ). answerOf told (outcome S n)) (room (c .before))
+  answered : c .write .result ≡ answerOf refusalAnswer o
+  answered = c .write .ensures .0 ∙ ap (λ (n : ℕ). answerOf refusalAnswer (outcome S n)) (room (c .before))
 
   left : c .write .last .1 .0 ≡ bufferAfter o B
   left = c .write .ensures .1 ∙ ap (λ (n : ℕ). bufferAfter (outcome S n) B) (room (c .before))

@@ -2,7 +2,7 @@
 use Prim.Native.Nat.{ℕ, suc}
 use mathlib.Core.Path.{ap, sym}
 use lib.ListN.{replicate}
-use Rattle.text.proofs.Theorems.{longest-certificate}
+use Rattle.certificate.proofs.Laws.{longest-certificate}
 use Rattle.report.proofs.streams.certificate_buffer.Statement.{statement}
 use Rattle.report.proofs.streams.certificate_buffer.Tie as tie
 

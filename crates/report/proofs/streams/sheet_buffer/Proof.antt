@@ -2,7 +2,7 @@
 use Prim.Native.Nat.{ℕ, suc}
 use mathlib.Core.Path.{ap, sym}
 use lib.ListN.{replicate}
-use Rattle.text.proofs.Theorems.{longest-sheet}
+use Rattle.certificate.proofs.Laws.{longest-sheet}
 use Rattle.report.proofs.streams.sheet_buffer.Statement.{statement}
 use Rattle.report.proofs.streams.sheet_buffer.Tie as tie
 

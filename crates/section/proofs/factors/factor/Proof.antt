@@ -1,5 +1,5 @@
 -- `section::factors::factor` meets its contract.
-use Rattle.section.proofs.FactorForms.{χ-before, χ-from}
+use Rattle.section.proofs.FactorForms.{χ-below, χ-beyond}
 use borrow.Author.Needs.{needs}
 use Rattle.section.proofs.factors.factor.Statement.{statement}
 use Rattle.section.proofs.factors.factor.Tie as tie
@@ -16,7 +16,7 @@ before-up-requires c κs = search needs
 returns : tie.Need-returns
 returns c =
     let start = c .before .before .before in
-    χ-before (start .args .n) (start .args .u) (c .before .before .if1 .taken) (c .before .before-down .ensures) (c .before-up .ensures)
+    χ-below (start .args .n) (start .args .u) (c .before .before .if1 .taken) (c .before .before-down .ensures) (c .before-up .ensures)
 
 factor-across-requires : tie.Need-factor-across-requires
 factor-across-requires c κs = search needs
@@ -33,7 +33,7 @@ from-up-requires c κs = search needs
 returns-3 : tie.Need-returns-3
 returns-3 c =
     let start = c .before .before .before .before in
-    χ-from (start .args .n) (start .args .u) (c .before .before .if2 .left) (start .pre .order) (c .before .from-down .ensures) (c .from-up .ensures)
+    χ-beyond (start .args .n) (start .args .u) (c .before .before .if2 .left) (start .pre .order) (c .before .from-down .ensures) (c .from-up .ensures)
 
 pub factor-spec : {M : Type 1} → statement M
 factor-spec =

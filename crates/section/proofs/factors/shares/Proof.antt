@@ -2,7 +2,8 @@
 use mathlib.Core.Path.{ap, _∙_}
 use Rattle.section.specs.Working.{ρ-plane, ρ-lip}
 use Rattle.section.proofs.RoundForms.{one-room}
-use Rattle.section.proofs.ShareForms.{full-plane, full-lip}
+use Rattle.section.proofs.ShareForms.{full-plane, full-lip, plane-share-is, lip-share-is}
+use native.Mathlib.Omega.{arith}
 use borrow.Author.Needs.{needs}
 use borrow.Author.Tests.{leb-true}
 use Rattle.section.proofs.factors.shares.Statement.{statement}
@@ -30,17 +31,17 @@ returns c =
 roots-requires : tie.Need-roots-requires
 roots-requires c κs = search needs
 
-plane-share-requires : tie.Need-plane-share-requires
-plane-share-requires c κs = rw (c .roots .ensures .0) (c .before .before .before .pre .2)
+share-requires : tie.Need-share-requires
+share-requires c κs = (rw (c .roots .ensures .0) (c .before .before .before .pre .2), omega arith)
 
-lip-share-requires : tie.Need-lip-share-requires
-lip-share-requires c κs = rw (c .before .roots .ensures .1) (c .before .before .before .before .pre .3)
+share-requires-2 : tie.Need-share-requires-2
+share-requires-2 c κs = (rw (c .before .roots .ensures .1) (c .before .before .before .before .pre .3), omega arith)
 
 returns-2 : tie.Need-returns-2
 returns-2 c =
     let n = c .before .before .before .before .before .args .n in
     let u = c .before .before .roots .ensures in
-    (c .before .plane-share .ensures ∙ ap (ρ-plane n) (u .0), c .lip-share .ensures ∙ ap (ρ-lip n) (u .1))
+    (c .before .share .ensures ∙ plane-share-is n _ ∙ ap (ρ-plane n) (u .0), c .share2 .ensures ∙ lip-share-is n _ ∙ ap (ρ-lip n) (u .1))
 
 pub shares-spec : {M : Type 1} → statement M
 shares-spec =
@@ -52,6 +53,6 @@ shares-spec =
     ratio-requires
     returns
     roots-requires
-    plane-share-requires
-    lip-share-requires
+    share-requires
+    share-requires-2
     returns-2)

@@ -1,5 +1,5 @@
 -- `section::moments::axis` meets its contract.
-use Rattle.pair.proofs.SignedForms.{plain-pair-means}
+use Rattle.pair.proofs.Laws.{plain-pair-means}
 use Rattle.section.specs.Working.{z}
 use borrow.Author.Needs.{needs}
 use Rattle.section.proofs.moments.axis.Statement.{statement}

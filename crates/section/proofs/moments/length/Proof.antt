@@ -17,10 +17,10 @@ times-requires-2 : tie.Need-times-requires-2
 times-requires-2 c κs = search needs
 
 plus-requires : tie.Need-plus-requires
-plus-requires c κs = rw (c .before .before .fixed-length .ensures, c .before .times .ensures) (c .before .before .before .before .before .before .before .before .before .pre .first)
+plus-requires c κs = rw (c .before .before .fixed-length .ensures, c .before .times .ensures) (c .before .before .before .before .before .before .before .pre .first)
 
 plus-requires-2 : tie.Need-plus-requires-2
-plus-requires-2 c κs = rw (c .plus .ensures, c .before .times2 .ensures, c .before .before .times .ensures, c .before .before .before .fixed-length .ensures) (c .before .before .before .before .before .before .before .before .before .before .pre .second)
+plus-requires-2 c κs = rw (c .plus .ensures, c .before .times2 .ensures, c .before .before .times .ensures, c .before .before .before .fixed-length .ensures) (c .before .before .before .before .before .before .before .before .pre .second)
 
 returns : tie.Need-returns
 unfolding L

@@ -1,7 +1,6 @@
 -- `section::moments::lip_moment` meets its contract.
 use mathlib.Core.Path.{ap, _∙_}
-use Rattle.pair.proofs.SignedForms.{plain-pair-means}
-use Rattle.pair.proofs.SignedProducts.{signed-times-comm}
+use Rattle.pair.proofs.Laws.{plain-pair-means, signed-times-comm}
 use Rattle.pair.specs.Forms.{plainPair}
 use Rattle.section.specs.Working.{lip-moment}
 use borrow.Author.Needs.{needs}

@@ -1,5 +1,5 @@
 -- `section::moments::outer_moment` meets its contract.
-use Rattle.pair.proofs.SignedForms.{plain-pair-means}
+use Rattle.pair.proofs.Laws.{plain-pair-means}
 use borrow.Author.Needs.{needs}
 use Rattle.section.proofs.moments.outer_moment.Statement.{statement}
 use Rattle.section.proofs.moments.outer_moment.Tie as tie
@@ -11,7 +11,7 @@ flange-moment-requires : tie.Need-flange-moment-requires
 flange-moment-requires c κs = search needs
 
 with-pair-requires : tie.Need-with-pair-requires
-with-pair-requires c κs = rw (c .before .lip-moment .ensures, plain-pair-means, c .flange-moment .ensures) (c .before .before .before .before .before .before .before .pre .sum)
+with-pair-requires c κs = rw (c .before .lip-moment .ensures, plain-pair-means, c .flange-moment .ensures) (c .before .before .before .before .before .pre .sum)
 
 returns : tie.Need-returns
 returns c = rw (c .with-pair .ensures, c .before .flange-moment .ensures, c .before .before .lip-moment .ensures, plain-pair-means)

@@ -1,5 +1,5 @@
 -- `section::moments::with_pair` meets its contract.
-use Rattle.pair.proofs.SignedForms.{plain-pair-means}
+use Rattle.pair.proofs.Laws.{plain-pair-means}
 use borrow.Author.Needs.{needs}
 use Rattle.section.proofs.moments.with_pair.Statement.{statement}
 use Rattle.section.proofs.moments.with_pair.Tie as tie

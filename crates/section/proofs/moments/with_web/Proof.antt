@@ -1,5 +1,5 @@
 -- `section::moments::with_web` meets its contract.
-use Rattle.pair.proofs.SignedForms.{plain-pair-means}
+use Rattle.pair.proofs.Laws.{plain-pair-means}
 use borrow.Author.Needs.{needs}
 use Rattle.section.proofs.moments.with_web.Statement.{statement}
 use Rattle.section.proofs.moments.with_web.Tie as tie

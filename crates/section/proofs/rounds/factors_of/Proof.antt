@@ -2,7 +2,7 @@
 use mathlib.Core.Path.{_≡_, sym, subst, _∙_}
 use Rattle.pair.specs.declared.Pair.{Pair}
 use Rattle.section.specs.declared.Stiffener.{Stiffener}
-use Rattle.section.specs.Working.{factors, mm, whole}
+use Rattle.section.specs.Parts.{factors}
 use Rattle.section.specs.Room.{FactorsRoom}
 use Rattle.section.proofs.SamePairs.{same-ends}
 use borrow.Author.Needs.{needs}
@@ -17,24 +17,25 @@ same-stiffener-requires c κs = search needs
 
 -- what is found the same is the same
 module _ (c : tie.Then2) where
-  widths : c .before .before .before .before .args .bp1 ≡ c .before .before .before .before .args .bp2
+  abbrev start : tie.Start
+  start = c .before .before .before .before
+
+  widths : start .args .bp1 ≡ start .args .bp2
   widths = same-ends _ _ (sym (c .before .before .before .same .ensures) ∙ c .before .before .if1 .taken)
 
-  stiffeners : c .before .before .before .before .args .one ≡ c .before .before .before .before .args .two
+  stiffeners : start .args .one ≡ start .args .two
   stiffeners = c .before .same-stiffener .ensures .0 (c .if2 .taken)
 
 equal-factors-requires : tie.Need-equal-factors-requires
 equal-factors-requires c κs =
-    let start = c .before .before .before .before in
-    let a = start .args in
-    subst (λ (s : Stiffener). FactorsRoom (a .n) (a .t .0) (a .fyb) (a .hp) (a .bp1) (a .bp1) (a .one) s) (sym (stiffeners c))
-    (subst (λ (b : Pair). FactorsRoom (a .n) (a .t .0) (a .fyb) (a .hp) (a .bp1) b (a .one) (a .two)) (sym (widths c)) (start .pre))
+    let a = start c .args in
+    subst (λ (s : Stiffener). FactorsRoom (a .n) (a .y) (a .bp1) (a .bp1) (a .one) s) (sym (stiffeners c))
+    (subst (λ (b : Pair). FactorsRoom (a .n) (a .y) (a .bp1) b (a .one) (a .two)) (sym (widths c)) (start c .pre))
 
 returns : tie.Need-returns
 returns c =
-    let a = c .before .before .before .before .before .args in
-    c .equal-factors .ensures
-    ∙ (λ i. factors (a .n) (mm (a .n) (a .t .0)) (whole (a .n) (a .fyb)) (a .hp) (a .bp1) (widths (c .before) i) (a .one) (stiffeners (c .before) i))
+    let a = start (c .before) .args in
+    c .equal-factors .ensures ∙ (λ i. factors (a .n) (a .y) (a .bp1) (widths (c .before) i) (a .one) (stiffeners (c .before) i))
 
 unequal-factors-requires : tie.Need-unequal-factors-requires
 unequal-factors-requires c κs = search needs

@@ -1,9 +1,17 @@
 -- `section::rounds::first_round` meets its contract.
-use Rattle.section.specs.Working.{rounds}
-use Rattle.section.proofs.RoundForms.{one-room, one-factor}
+use mathlib.Core.Path.{refl, sym, ap, ap₂, _∙_}
+use Rattle.pair.specs.declared.Pair.{Pair}
+use Rattle.section.specs.Working.{whole, round, rounds}
+use Rattle.section.specs.Parts.{factors}
+use Rattle.section.specs.Room.{RoundRoom}
+use Rattle.section.proofs.RoundForms.{one-room, one-factor, equal-stiffener, round-factors}
 use borrow.Author.Needs.{needs}
 use Rattle.section.proofs.rounds.first_round.Statement.{statement}
 use Rattle.section.proofs.rounds.first_round.Tie as tie
+
+-- a round from factors of 1 has room
+room : (c : tie.Start) → RoundRoom (c .args .n) (c .args .x) (whole (c .args .n) 1) (whole (c .args .n) 1)
+room c = c .pre .room _ _ (one-factor (c .pre .fine)) (one-factor (c .pre .fine))
 
 mul-ratio : tie.Need-mul-ratio
 mul-ratio c = search needs
@@ -11,13 +19,41 @@ mul-ratio c = search needs
 ratio-requires : tie.Need-ratio-requires
 ratio-requires c κs = one-room (c .pre .fine)
 
-one-round-requires : tie.Need-one-round-requires
-one-round-requires c κs =
-    rw (c .ratio .ensures) (c .before .pre .room _ _ (one-factor (c .before .pre .fine)) (one-factor (c .before .pre .fine)))
+stiffener-of-requires : tie.Need-stiffener-of-requires
+stiffener-of-requires c κs = rw (c .ratio .ensures) (room (c .before) .one)
+
+alike-requires : tie.Need-alike-requires
+alike-requires c κs = search needs
+
+second-stiffener-requires : tie.Need-second-stiffener-requires
+second-stiffener-requires c κs =
+    let ratio = c .before .before in
+    (rw (ratio .ratio .ensures) (room (ratio .before) .two), λ e. equal-stiffener _ _ (c .before .stiffener-of .ensures) (c .alike .ensures .0 e, refl))
+
+factors-of-requires : tie.Need-factors-of-requires
+factors-of-requires c κs =
+    let ratio = c .before .before .before in
+    rw (c .second-stiffener .ensures, c .before .before .stiffener-of .ensures, ratio .ratio .ensures) (room (ratio .before) .rest)
 
 returns : tie.Need-returns
 unfolding rounds
-returns c = cc
+returns c =
+    let ratio = c .before .before .before .before in
+    let n = ratio .before .args .n in
+    let x = ratio .before .args .x in
+    c .factors-of .ensures
+    ∙ ap₂ (factors n (x .common) (x .one .bp) (x .two .bp)) (c .before .before .before .stiffener-of .ensures) (c .before .second-stiffener .ensures)
+    ∙ sym (round-factors n x _ _)
+    ∙ ap (λ (χ : Pair). round n x χ χ) (ratio .ratio .ensures)
 
 pub first-round-spec : {M : Type 1} → statement M
-first-round-spec = tie.close (tie.spec mul-ratio ratio-requires one-round-requires returns)
+first-round-spec =
+    tie.close
+    (tie.spec
+    mul-ratio
+    ratio-requires
+    stiffener-of-requires
+    alike-requires
+    second-stiffener-requires
+    factors-of-requires
+    returns)

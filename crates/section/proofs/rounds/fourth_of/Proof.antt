@@ -13,7 +13,7 @@ stress-requires : tie.Need-stress-requires
 stress-requires c κs = search needs
 
 slenderness-fourth-requires : tie.Need-slenderness-fourth-requires
-slenderness-fourth-requires c κs = rw (c .stress .ensures, c .before .inertia .ensures, c .before .before .flexibility .ensures) (c .before .before .before .pre .slender)
+slenderness-fourth-requires c κs = rw (c .stress .ensures, c .before .inertia .ensures, c .before .before .flexibility .ensures) (c .before .before .before .before .pre .slender)
 
 returns : tie.Need-returns
 returns c = rw (c .slenderness-fourth .ensures, c .before .stress .ensures, c .before .before .inertia .ensures, c .before .before .before .flexibility .ensures)

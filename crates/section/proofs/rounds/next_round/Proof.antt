@@ -1,6 +1,7 @@
 -- `section::rounds::next_round` meets its contract.
-use mathlib.Core.Path.{sym, _∙_}
-use Rattle.section.specs.Working.{round, factors, mm, whole}
+use mathlib.Core.Path.{sym, ap₂, _∙_}
+use Rattle.section.specs.Parts.{factors}
+use Rattle.section.proofs.RoundForms.{equal-stiffener, round-factors}
 use borrow.Author.Needs.{needs}
 use Rattle.section.proofs.rounds.next_round.Statement.{statement}
 use Rattle.section.proofs.rounds.next_round.Tie as tie
@@ -8,8 +9,12 @@ use Rattle.section.proofs.rounds.next_round.Tie as tie
 stiffener-of-requires : tie.Need-stiffener-of-requires
 stiffener-of-requires c κs = search needs
 
+equally-refined-requires : tie.Need-equally-refined-requires
+equally-refined-requires c κs = search needs
+
 second-stiffener-requires : tie.Need-second-stiffener-requires
-second-stiffener-requires c κs = search needs
+second-stiffener-requires c κs =
+    (c .before .before .pre .0 .two, λ e. equal-stiffener _ _ (c .before .stiffener-of .ensures) (c .equally-refined .ensures .0 e))
 
 same-stiffener-requires : tie.Need-same-stiffener-requires
 same-stiffener-requires c κs = search needs
@@ -18,36 +23,33 @@ same-stiffener-requires-2 : tie.Need-same-stiffener-requires-2
 same-stiffener-requires-2 c κs = search needs
 
 returns : tie.Need-returns
-unfolding round
 returns c =
     let found = c .before .before .before in
-    let start = found .before .before .before .before .before .before .before in
+    let start = found .before .before .before .before in
     let a = start .args in
-    let one = sym (found .same-stiffener .ensures .0 (c .before .before .if1 .taken)) ∙ found .before .before .stiffener-of .ensures in
+    let one = sym (found .same-stiffener .ensures .0 (c .before .before .if1 .taken)) ∙ found .before .before .before .stiffener-of .ensures in
     let two = sym (c .before .same-stiffener2 .ensures .0 (c .if2 .taken)) ∙ found .before .second-stiffener .ensures in
-    start .pre .1
-    ∙ (λ i. factors (a .n) (mm (a .n) (a .t .0)) (whole (a .n) (a .fyb)) (a .hp) (a .f1 .bp) (a .f2 .bp) (one i) (two i))
+    start .pre .1 ∙ ap₂ (factors (a .n) (a .x .common) (a .x .one .bp) (a .x .two .bp)) one two ∙ sym (round-factors (a .n) (a .x) _ _)
 
 factors-of-requires : tie.Need-factors-of-requires
 factors-of-requires c κs =
     let second = c .before .before in
-    rw (second .second-stiffener .ensures, second .before .stiffener-of .ensures) (second .before .before .before .before .before .before .pre .0 .rest)
+    rw (second .second-stiffener .ensures, second .before .before .stiffener-of .ensures) (second .before .before .before .pre .0 .rest)
 
 returns-2 : tie.Need-returns-2
-unfolding round
 returns-2 c =
     let second = c .before .before .before in
-    let a = second .before .before .before .before .before .before .args in
-    let one = second .before .stiffener-of .ensures in
+    let a = second .before .before .before .args in
+    let one = second .before .before .stiffener-of .ensures in
     let two = second .second-stiffener .ensures in
-    c .factors-of .ensures
-    ∙ (λ i. factors (a .n) (mm (a .n) (a .t .0)) (whole (a .n) (a .fyb)) (a .hp) (a .f1 .bp) (a .f2 .bp) (one i) (two i))
+    c .factors-of .ensures ∙ ap₂ (factors (a .n) (a .x .common) (a .x .one .bp) (a .x .two .bp)) one two ∙ sym (round-factors (a .n) (a .x) _ _)
 
 pub next-round-spec : {M : Type 1} → statement M
 next-round-spec =
     tie.close
     (tie.spec
     stiffener-of-requires
+    equally-refined-requires
     second-stiffener-requires
     same-stiffener-requires
     same-stiffener-requires-2

@@ -4,8 +4,8 @@ use Prim.Native.Nat.{_-_, _≤_}
 use native.Mathlib.Numerals.{add-one}
 use native.Mathlib.Omega.{arith}
 use Rattle.section.specs.declared.Round.{Round}
-use Rattle.section.specs.Working.{rounds, mm, whole}
-use Rattle.section.specs.Room.{Factor}
+use Rattle.section.specs.Working.{rounds}
+use Rattle.section.specs.Room.{FactorsMost}
 use Rattle.section.proofs.RoundForms.{factors-most, next-round, settled, own-stiffeners}
 use Rattle.section.proofs.SamePairs.{same-ends}
 use borrow.Author.Needs.{needs}
@@ -13,19 +13,19 @@ use Rattle.section.proofs.rounds.refined.Statement.{statement}
 use Rattle.section.proofs.rounds.refined.Tie as tie
 
 abbrev Inv-loop : tie.InvT-loop
-Inv-loop n t fyb hp cp f1 f2 times r₀ i₀ r i =
-    (i ≤ times) × (r ≡ rounds n (mm n (t .0)) (whole n fyb) hp cp f1 f2 i) × Factor n (r .chi1) × Factor n (r .chi2)
+Inv-loop n x times r₀ i₀ r i =
+    (i ≤ times) × (r ≡ rounds n x i) × FactorsMost n r
 
 abbrev μ-loop : tie.MeasureT-loop
-μ-loop n t fyb hp cp f1 f2 times r₀ i₀ r i = times - i
+μ-loop n x times r₀ i₀ r i = times - i
 
 loop-holds : tie.Need-loop-holds Inv-loop μ-loop
-loop-holds c = (omega arith, c .pre .1, rw (c .pre .1) (factors-most (c .pre .0) 0 .0), rw (c .pre .1) (factors-most (c .pre .0) 0 .1))
+loop-holds c = (omega arith, c .pre .1, rw (c .pre .1) (factors-most (c .pre .0) 0))
 
 next-round-requires : tie.Need-next-round-requires Inv-loop μ-loop
 next-round-requires c κs =
     let loop = c .before .before .before .loop in
-    (c .before .before .before .before .pre .0 .room _ _ (loop .inv .2) (loop .inv .3), own-stiffeners _ _ _ _ _ _ _ (loop .i) (loop .inv .1))
+    (c .before .before .before .before .pre .0 .room _ _ (loop .inv .2 .one) (loop .inv .2 .two), own-stiffeners _ _ (loop .i) (loop .inv .1))
 
 same-requires : tie.Need-same-requires Inv-loop μ-loop
 same-requires c κs = search needs
@@ -35,19 +35,21 @@ same-requires-2 c κs = search needs
 
 returns : tie.Need-returns Inv-loop μ-loop
 returns c =
-    let start = c .before .before .before .before .before .before .before .before .before in
-    let loop = c .before .before .before .before .before .before .before .before .loop in
-    let call = c .before .before .before .before .next-round in
+    let called = c .before .before .before .before in
+    let start = called .before .before .before .before .before in
+    let loop = called .before .before .before .before .loop in
+    let call = called .next-round in
     let n = start .args .n in
+    let x = start .args .x in
     let now = loop .inv .1 in
-    let next = next-round n (loop .i) _ _ _ _ _ _ now (call .ensures) ∙ ap (rounds n (mm n (start .args .t .0)) (whole n (start .args .fyb)) (start .args .hp) (start .args .cp) (start .args .f1) (start .args .f2)) (add-one (loop .i)) in
+    let next = next-round n x (loop .i) now (call .ensures) ∙ ap (rounds n x) (add-one (loop .i)) in
     let χ₁ = same-ends _ _ (sym (c .before .before .before .same .ensures) ∙ c .before .before .if1 .taken) in
     let χ₂ = same-ends _ _ (sym (c .before .same2 .ensures) ∙ c .if2 .taken) in
     next
-    ∙ sym (settled n _ _ _ _ _ _ (loop .i) (start .args .times)
-    (sym (ap (λ (r : Round). r .chi1) next) ∙ χ₁ ∙ ap (λ (r : Round). r .chi1) now)
-    (sym (ap (λ (r : Round). r .chi2) next) ∙ χ₂ ∙ ap (λ (r : Round). r .chi2) now)
-    (omega (arith, c .before .before .before .before .before .before .before .loop-test .taken)))
+    ∙ sym (settled n x (loop .i) (start .args .times)
+    (sym (ap (λ (r : Round). r .one .chi) next) ∙ χ₁ ∙ ap (λ (r : Round). r .one .chi) now)
+    (sym (ap (λ (r : Round). r .two .chi) next) ∙ χ₂ ∙ ap (λ (r : Round). r .two .chi) now)
+    (omega (arith, called .before .before .before .loop-test .taken)))
 
 add-i : tie.Need-add-i Inv-loop μ-loop
 add-i c = omega arith
@@ -57,11 +59,12 @@ loop-less c = omega arith
 
 loop-again : tie.Need-loop-again Inv-loop μ-loop
 loop-again c =
-    let start = c .before .before .before .before .before .before .before in
-    let loop = c .before .before .before .before .before .before .loop in
-    let call = c .before .before .next-round in
-    let next = next-round (start .args .n) (loop .i) _ _ _ _ _ _ (loop .inv .1) (call .ensures) in
-    (omega (arith, c .before .before .before .before .before .loop-test .taken), next, rw (call .ensures) (start .pre .0 .one _ _ (loop .inv .2) (loop .inv .3)), rw (call .ensures) (start .pre .0 .two _ _ (loop .inv .2) (loop .inv .3)))
+    let called = c .before .before in
+    let start = called .before .before .before .before .before in
+    let loop = called .before .before .before .before .loop in
+    let call = called .next-round in
+    let next = next-round (start .args .n) (start .args .x) (loop .i) (loop .inv .1) (call .ensures) in
+    (omega (arith, called .before .before .before .loop-test .taken), next, rw (call .ensures) (start .pre .0 .most _ _ (loop .inv .2 .one) (loop .inv .2 .two)))
 
 returns-2 : tie.Need-returns-2 Inv-loop μ-loop
 returns-2 c =

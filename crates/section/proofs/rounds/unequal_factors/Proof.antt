@@ -2,8 +2,8 @@
 use mathlib.Core.Path.{_≡_, ap, _∙_}
 use Rattle.pair.specs.Pairs.{root}
 use Rattle.pair.specs.declared.Pair.{Pair}
-use Rattle.section.specs.declared.Stiffener.{Stiffener}
-use Rattle.section.specs.Working.{S, g, J, T, kf, D, ud⁴, ud, χ, χ-of, factors, mm, whole}
+use Rattle.section.specs.Working.{S, g, kf, ud, χ, χ-of}
+use Rattle.section.specs.Parts.{fourth-of, factors}
 use borrow.Author.Needs.{needs}
 use Rattle.section.proofs.rounds.unequal_factors.Statement.{statement}
 use Rattle.section.proofs.rounds.unequal_factors.Tie as tie
@@ -29,24 +29,22 @@ unfolding kf
 fourth-of-requires-2 c κs =
     rw (c .before .over .ensures, c .before .before .centre2 .ensures, c .before .before .before .centre .ensures) (c .before .before .before .before .pre .two)
 
--- D, J and T of a flange, as they go into its ud
+-- kf, each flange's g, and the fourth power of its ud
 module _ (c : tie.Start) where
+  abbrev k : Pair
+  k = kf (c .args .n) (c .args .one) (c .args .two)
+
   abbrev G₁ : Pair
   G₁ = g (c .args .n) (c .args .bp1) (c .args .one)
 
   abbrev G₂ : Pair
   G₂ = g (c .args .n) (c .args .bp2) (c .args .two)
 
-  abbrev fourth : Pair → Pair → Pair → Stiffener → Pair
-  fourth k x o s =
-      ud⁴ (c .args .n) (D (c .args .n) (c .args .hp) k x o) (J (c .args .n) (mm (c .args .n) (c .args .t .0)) s)
-      (T (c .args .n) (mm (c .args .n) (c .args .t .0)) (whole (c .args .n) (c .args .fyb)) s)
-
   abbrev fourth₁ : Pair
-  fourth₁ = fourth (kf (c .args .n) (c .args .one) (c .args .two)) G₁ G₂ (c .args .one)
+  fourth₁ = fourth-of (c .args .n) (c .args .y) k G₁ G₂ (c .args .one)
 
   abbrev fourth₂ : Pair
-  fourth₂ = fourth (kf (c .args .n) (c .args .one) (c .args .two)) G₂ G₁ (c .args .two)
+  fourth₂ = fourth-of (c .args .n) (c .args .y) k G₂ G₁ (c .args .two)
 
 -- the fourth powers of both ud
 module _ (c : tie.After-fourth-of2) where
@@ -57,13 +55,13 @@ module _ (c : tie.After-fourth-of2) where
   unfolding kf
   one-is =
       c .before .fourth-of .ensures
-      ∙ (λ i. fourth start (c .before .before .over .ensures i) (c .before .before .before .before .centre .ensures i) (c .before .before .before .centre2 .ensures i) (start .args .one))
+      ∙ (λ i. fourth-of (start .args .n) (start .args .y) (c .before .before .over .ensures i) (c .before .before .before .before .centre .ensures i) (c .before .before .before .centre2 .ensures i) (start .args .one))
 
   two-is : c .fourth-of2 .result ≡ fourth₂ start
   unfolding kf
   two-is =
       c .fourth-of2 .ensures
-      ∙ (λ i. fourth start (c .before .before .over .ensures i) (c .before .before .before .centre2 .ensures i) (c .before .before .before .before .centre .ensures i) (start .args .two))
+      ∙ (λ i. fourth-of (start .args .n) (start .args .y) (c .before .before .over .ensures i) (c .before .before .before .centre2 .ensures i) (c .before .before .before .before .centre .ensures i) (start .args .two))
 
 roots-requires : tie.Need-roots-requires
 roots-requires c κs = (rw (one-is c) (start c .pre .one .slender .inner), rw (two-is c) (start c .pre .two .slender .inner))
@@ -108,7 +106,7 @@ returns c =
     let n = a r .args .n in
     let χ₁ = c .before .factor .ensures ∙ ap (χ n) (u₁ r) in
     let χ₂ = c .factor2 .ensures ∙ ap (χ n) (u₂ r) in
-    λ i. record { one = a r .args .one; two = a r .args .two; chi1 = χ₁ i; chi2 = χ₂ i }
+    λ i. record { one = record { stiffener = a r .args .one; chi = χ₁ i }; two = record { stiffener = a r .args .two; chi = χ₂ i } }
 
 pub unequal-factors-spec : {M : Type 1} → statement M
 unequal-factors-spec =

@@ -7,12 +7,12 @@ use Rattle.section.proofs.sections.axial.Tie as tie
 mul-result : tie.Need-mul-result
 mul-result c =
     let start = c .before in
-    record { fits = axial-word (start .args .n) _ _ (start .pre .0) (start .pre .1 .q2 .fyb .high) (start .pre .2) .0 }
+    record { fits = axial-word (start .args .n) _ _ (start .pre .0) (start .pre .1 .q2 .fyb .1) (start .pre .2) .0 }
 
 mul-result-2 : tie.Need-mul-result-2
 mul-result-2 c =
     let start = c .before in
-    record { fits = axial-word (start .args .n) _ _ (start .pre .0) (start .pre .1 .q2 .fyb .high) (start .pre .2) .1 }
+    record { fits = axial-word (start .args .n) _ _ (start .pre .0) (start .pre .1 .q2 .fyb .1) (start .pre .2) .1 }
 
 mul-result-3 : tie.Need-mul-result-3
 mul-result-3 c = search needs
@@ -20,12 +20,12 @@ mul-result-3 c = search needs
 mul-result-4 : tie.Need-mul-result-4
 mul-result-4 c =
     let start = c .before .before in
-    record { fits = factor-word (start .args .n) _ (start .pre .0) (start .pre .1 .q2 .gm0 .low) (start .pre .1 .q2 .gm0 .high) .1 }
+    record { fits = factor-word (start .args .n) _ (start .pre .0) (start .pre .1 .q2 .gm0 .0) (start .pre .1 .q2 .gm0 .1) .1 }
 
 div-result : tie.Need-div-result
 div-result c =
     let start = c .before .before in
-    factor-word (start .args .n) _ (start .pre .0) (start .pre .1 .q2 .gm0 .low) (start .pre .1 .q2 .gm0 .high) .0
+    factor-word (start .args .n) _ (start .pre .0) (start .pre .1 .q2 .gm0 .0) (start .pre .1 .q2 .gm0 .1) .0
 
 returns : tie.Need-returns
 returns c = search needs

@@ -1,7 +1,4 @@
 -- `section::sections::full_section` meets its contract.
-use mathlib.Core.Path.{ap, _∙_}
-use Rattle.pair.specs.Pairs.{plus}
-use Rattle.pair.specs.declared.Pair.{Pair}
 use Rattle.section.specs.Working.{full}
 use Rattle.section.proofs.RoundForms.{one-room}
 use borrow.Author.Needs.{needs}
@@ -14,37 +11,28 @@ mul-s c = search needs
 over-ratio-requires : tie.Need-over-ratio-requires
 over-ratio-requires c κs = search needs
 
-over-ratio-requires-2 : tie.Need-over-ratio-requires-2
-over-ratio-requires-2 c κs = search needs
+full-stiffener-requires : tie.Need-full-stiffener-requires
+full-stiffener-requires c κs = search needs
 
-over-ratio-requires-3 : tie.Need-over-ratio-requires-3
-over-ratio-requires-3 c κs = search needs
-
-plus-requires : tie.Need-plus-requires
-plus-requires c κs = rw (c .before .over-ratio2 .ensures) (c .before .before .before .pre .sum1)
-
-plus-requires-2 : tie.Need-plus-requires-2
-plus-requires-2 c κs = rw (c .before .over-ratio3 .ensures) (c .before .before .before .before .pre .sum2)
+full-stiffener-requires-2 : tie.Need-full-stiffener-requires-2
+full-stiffener-requires-2 c κs = search needs
 
 ratio-requires : tie.Need-ratio-requires
-ratio-requires c κs = one-room (c .before .before .before .before .before .pre .fine)
+ratio-requires c κs = one-room (c .before .before .before .pre .fine)
 
 returns : tie.Need-returns
 unfolding full
 returns c =
-    let he = c .before .before .before .before .before .over-ratio .ensures in
-    let b₁ = c .before .before .before .before .over-ratio2 .ensures in
-    let b₂ = c .before .before .before .over-ratio3 .ensures in
-    let cp = c .before .before .before .before .before .before .args .cp in
+    let last = c .before .before in
+    let he = last .before .before .before .over-ratio .ensures in
+    let one = last .before .before .full-stiffener .ensures in
+    let two = last .before .full-stiffener2 .ensures in
+    let chi = last .ratio .ensures in
     λ i. record {
-      first1 = b₁ i;
-      first2 = b₂ i;
+      one = record { be1 = one i .be2; stiffener = one i; chi = chi i };
+      two = record { be1 = two i .be2; stiffener = two i; chi = chi i };
       p = he i;
       m = he i;
-      one = record { be2 = b₁ i; c = cp; a = (c .before .before .plus .ensures ∙ ap (λ (x : Pair). plus x cp) b₁) i };
-      two = record { be2 = b₂ i; c = cp; a = (c .before .plus2 .ensures ∙ ap (λ (x : Pair). plus x cp) b₂) i };
-      chi1 = c .ratio .ensures i;
-      chi2 = c .ratio .ensures i;
     }
 
 pub full-section-spec : {M : Type 1} → statement M
@@ -53,9 +41,7 @@ full-section-spec =
     (tie.spec
     mul-s
     over-ratio-requires
-    over-ratio-requires-2
-    over-ratio-requires-3
-    plus-requires
-    plus-requires-2
+    full-stiffener-requires
+    full-stiffener-requires-2
     ratio-requires
     returns)

@@ -1,7 +1,7 @@
 -- `section::sections::lower_shift` meets its contract.
 use native.Mathlib.Omega.{arith}
 use lib.Dec.{lit≤}
-use Rattle.pair.proofs.SignedForms.{meaning-low}
+use Rattle.pair.proofs.Laws.{meaning-low}
 use Rattle.section.proofs.Printing.{ceil-word}
 use borrow.Author.Needs.{needs}
 use Rattle.section.proofs.sections.lower_shift.Statement.{statement}

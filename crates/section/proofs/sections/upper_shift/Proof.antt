@@ -1,7 +1,7 @@
 -- `section::sections::upper_shift` meets its contract.
 use native.Mathlib.Omega.{arith}
 use lib.Dec.{lit≤}
-use Rattle.pair.proofs.SignedForms.{meaning-high}
+use Rattle.pair.proofs.Laws.{meaning-high}
 use Rattle.section.proofs.Printing.{ceil-word}
 use borrow.Author.Needs.{needs}
 use Rattle.section.proofs.sections.upper_shift.Statement.{statement}

@@ -1,4 +1,7 @@
 -- `section::sections::web_kept` meets its contract.
+use Rattle.section.specs.Working.{web-kept}
+use native.Mathlib.Omega.{arith}
+use Rattle.section.proofs.ShareForms.{plane-share-is}
 use borrow.Author.Needs.{needs}
 use Rattle.section.proofs.sections.web_kept.Statement.{statement}
 use Rattle.section.proofs.sections.web_kept.Tie as tie
@@ -10,16 +13,18 @@ mul-root : tie.Need-mul-root
 mul-root c = search needs
 
 root-requires : tie.Need-root-requires
-root-requires c κs = rw (c .plane-slenderness-squared .ensures) (c .before .pre .radicand)
+root-requires c κs = rw (c .plane-slenderness-squared .ensures) (c .before .before .pre .radicand)
 
-plane-share-requires : tie.Need-plane-share-requires
-plane-share-requires c κs = rw (c .root .ensures, c .before .plane-slenderness-squared .ensures) (c .before .before .pre .slim)
+share-requires : tie.Need-share-requires
+share-requires c κs =
+    (rw (c .root .ensures, c .before .plane-slenderness-squared .ensures) (c .before .before .before .pre .slim), omega arith)
 
 half-kept-requires : tie.Need-half-kept-requires
-half-kept-requires c κs = rw (c .plane-share .ensures, c .before .root .ensures, c .before .before .plane-slenderness-squared .ensures) (c .before .before .before .pre .half)
+half-kept-requires c κs = rw (c .share .ensures, plane-share-is, c .before .root .ensures, c .before .before .plane-slenderness-squared .ensures) (c .before .before .before .before .pre .half)
 
 returns : tie.Need-returns
-returns c = rw (c .half-kept .ensures, c .before .plane-share .ensures, c .before .before .root .ensures, c .before .before .before .plane-slenderness-squared .ensures)
+unfolding web-kept
+returns c = rw (c .half-kept .ensures, c .before .share .ensures, plane-share-is, c .before .before .root .ensures, c .before .before .before .plane-slenderness-squared .ensures)
 
 pub web-kept-spec : {M : Type 1} → statement M
-web-kept-spec = tie.close (tie.spec plane-slenderness-squared-requires mul-root root-requires plane-share-requires half-kept-requires returns)
+web-kept-spec = tie.close (tie.spec plane-slenderness-squared-requires mul-root root-requires share-requires half-kept-requires returns)

@@ -17,7 +17,7 @@ mul-result c =
 add-result : tie.Need-add-result
 add-result c =
     let start = c .before .before .before in
-    omega (arith, printed-area (start .pre .0) (start .pre .1) (start .pre .3), start .pre .1 .q2 .allow .high)
+    omega (arith, printed-area (start .pre .0) (start .pre .1) (start .pre .3), start .pre .1 .q2 .allow .1)
 
 mul-result-2 : tie.Need-mul-result-2
 mul-result-2 c = search needs
@@ -25,7 +25,7 @@ mul-result-2 c = search needs
 mul-result-3 : tie.Need-mul-result-3
 mul-result-3 c =
     let start = c .before .before .before in
-    omega (arith, mul-le-mul-left {m = start .args .n} {n = 10} (start .args .area + start .args .q .allow) (start .pre .0 .most), printed-area (start .pre .0) (start .pre .1) (start .pre .3), start .pre .1 .q2 .allow .high)
+    omega (arith, mul-le-mul-left {m = start .args .n} {n = 10} (start .args .area + start .args .q .allow) (start .pre .0 .most), printed-area (start .pre .0) (start .pre .1) (start .pre .3), start .pre .1 .q2 .allow .1)
 
 returns : tie.Need-returns
 unfolding allowed

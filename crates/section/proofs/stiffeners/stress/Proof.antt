@@ -1,7 +1,6 @@
 -- `section::stiffeners::stress` meets its contract.
 use lib.Dec.{lit<}
-use Rattle.pair.proofs.Ratios.{over-twice}
-use Rattle.pair.proofs.Bounds.{over-twice-fits}
+use Rattle.pair.proofs.Laws.{over-twice, over-twice-fits}
 use Rattle.section.specs.Working.{T}
 use borrow.Author.Needs.{needs}
 use Rattle.section.proofs.stiffeners.stress.Statement.{statement}

@@ -1,7 +1,7 @@
 -- `section::widths::plane_slenderness_squared` meets its contract.
 use mathlib.Core.Path.{refl}
 use lib.Dec.{lit<}
-use Rattle.pair.proofs.Bounds.{over-ratio-fits}
+use Rattle.pair.proofs.Laws.{over-ratio-fits}
 use Rattle.section.specs.Working.{u²}
 use Rattle.section.proofs.Ends.{constant-exact}
 use borrow.Author.Needs.{needs}

@@ -12,18 +12,10 @@ const SCALE: f64 = 860.0;
 
 pub fn heading(svg: &mut Svg, sheet: &Sheet) {
     let mm = |hundredths: u64| hundredths as f64 / 100.0;
-    let lengths = [
-        ("h", sheet.h),
-        ("b1", sheet.b1),
-        ("b2", sheet.b2),
-        ("c", sheet.c),
-        ("r", sheet.r),
-        ("tnom", sheet.tnom),
-        ("t", sheet.t),
-    ];
-    let lengths: Vec<String> = lengths
-        .iter()
-        .map(|(name, length)| format!("{name} {}", mm(*length)))
+    let lengths: Vec<String> = sheet
+        .lengths()
+        .into_iter()
+        .map(|(key, length)| format!("{key} {}", mm(length)))
         .collect();
     let title = "Sheet B to scale: what counts, and what does not";
     svg.text("head", at(24.0, 34.0), title);
@@ -37,10 +29,14 @@ pub fn heading(svg: &mut Svg, sheet: &Sheet) {
     svg.text("", at(24.0, 58.0), &line);
 }
 
-/// The last six lines of the certificate, and what they say.
+/// The figures of the certificate, and what they say.
 pub fn figures(svg: &mut Svg, accepted: &Accepted) {
     let text = certificate_text(accepted);
-    let lines: Vec<String> = text.lines().skip(12).map(str::to_string).collect();
+    let lines: Vec<String> = text
+        .lines()
+        .skip(Sheet::LINES)
+        .map(str::to_string)
+        .collect();
     let hundredths = |number: i128| number as f64 / 100.0;
     let thousandths = |number: i128| number as f64 / 1000.0;
     let figures = &accepted.figures;

@@ -1,19 +1,25 @@
-//! Prints docs/sheet_b.svg: sheet B to scale on its mid-lines, what counts drawn
+//! Makes docs/sheet_b.svg: sheet B to scale on its mid-lines, what counts drawn
 //! full and what does not drawn pale, with the printed figures.
+//!
+//! picture [--write]
 
 mod dimensions;
 mod legend;
 mod section;
 mod svg;
 
+use reference::kept::{hold_or_write, Made};
 use reference::named::SHEET_B;
 use reference::sheet::{ask_numbers, Accepted};
 use section::Section;
+use std::process::ExitCode;
 use svg::Svg;
 
-fn main() {
+fn main() -> ExitCode {
     let accepted = ask_numbers(SHEET_B.numbers()).expect("sheet B is accepted");
-    print!("{}", picture(&accepted));
+    let mut made = Made::default();
+    made.file("docs/sheet_b.svg", picture(&accepted));
+    hold_or_write("picture", "sheet B", &made)
 }
 
 fn picture(accepted: &Accepted) -> String {

@@ -24,7 +24,7 @@ fn main() -> ExitCode {
         return ExitCode::FAILURE;
     };
     match run_all(Path::new(folder)) {
-        Ok(tally) => tally.told(),
+        Ok(tally) => tally.report(),
         Err(error) => {
             eprintln!("programs: {error}");
             ExitCode::FAILURE
@@ -50,7 +50,7 @@ fn programs(folder: &Path) -> [Program; 2] {
 
 /// Both programs at a time.
 fn run_all(folder: &Path) -> io::Result<Tally> {
-    let texts = texts::all()?;
+    let texts = texts::all();
     let [certify, verify] = programs(folder);
     thread::scope(|scope| {
         let other = scope.spawn(|| run_program(&verify, &texts));

@@ -140,7 +140,7 @@ impl Tally {
         self.faults.len() >= ENOUGH
     }
 
-    pub fn told(self) -> ExitCode {
+    pub fn report(self) -> ExitCode {
         let Tally { runs, faults } = self;
         if faults.is_empty() {
             println!("programs: {runs} runs of certify and verify, as the reference says");

@@ -5,7 +5,7 @@ use reference::cases::{
     text_of,
 };
 use reference::chance::{Chance, SEED};
-use reference::damage::{damaged, moved, FAULTS};
+use reference::damage::{damaged, every_fault, moved, FAULTS};
 use reference::named::{SHEET_A, SHEET_B};
 use reference::random::any_section;
 use reference::repository::in_repository;
@@ -28,15 +28,15 @@ fn text(name: impl Into<String>, bytes: impl Into<Vec<u8>>) -> Text {
     Text { name, bytes }
 }
 
-pub fn all() -> io::Result<Vec<Text>> {
+pub fn all() -> Vec<Text> {
     let mut texts = vec![text("empty", "")];
     texts.extend(kept());
-    texts.extend(kept_spellings()?);
+    texts.extend(faulty());
     texts.extend(random());
     texts.extend(near_longest());
     texts.extend(filled());
     texts.extend(longer());
-    Ok(texts)
+    texts
 }
 
 /// The texts of crates/certificate_cases.
@@ -49,23 +49,20 @@ fn kept() -> Vec<Text> {
         .collect()
 }
 
-/// The texts of crates/text_cases: behind a letter s or c, in hexadecimal digits.
-fn kept_spellings() -> io::Result<Vec<Text>> {
+/// A sheet and a certificate cut at every byte, and some of those with one fault; the
+/// archive is given all of them by tests/outside.
+fn faulty() -> Vec<Text> {
     let mut texts = Vec::new();
-    let cases = fs::read_to_string(in_repository("crates/text_cases/stdin"))?;
-    for (line, n) in cases.lines().zip(1..) {
-        if let Some(digits) = line.strip_prefix(['s', 'c']) {
-            texts.push(text(format!("text_cases, line {n}"), from_hex(digits)));
+    for (name, right) in right() {
+        let right = right.as_bytes();
+        for length in 0..right.len() {
+            texts.push(text(format!("{name}, cut to {length}"), &right[..length]));
+        }
+        for (i, fault) in every_fault(right).into_iter().enumerate().step_by(11) {
+            texts.push(text(format!("{name}, fault {i}"), fault));
         }
     }
-    assert!(!texts.is_empty());
-    Ok(texts)
-}
-
-fn from_hex(digits: &str) -> Vec<u8> {
-    let digit = |c: u8| (c as char).to_digit(16).expect("a digit") as u8;
-    let bytes = digits.as_bytes().chunks(2);
-    bytes.map(|b| digit(b[0]) * 16 + digit(b[1])).collect()
+    texts
 }
 
 /// Random sections, some of them refused; numbers moved, and damaged texts.

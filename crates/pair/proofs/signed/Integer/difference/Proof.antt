@@ -7,9 +7,6 @@ use Rattle.pair.proofs.IntegerForms.{plain-is, sub-above, sub-below}
 use Rattle.pair.proofs.signed.Integer.difference.Statement.{statement}
 use Rattle.pair.proofs.signed.Integer.difference.Tie as tie
 
-sub-t6 : tie.Need-sub-t6
-sub-t6 c = search needs
-
 returns : tie.Need-returns
 unfolding plain
 returns c = ap plain (sub-above (c .if1 .taken))
@@ -19,4 +16,4 @@ unfolding integer
 returns-2 c = plain-is _ (λ t. omega (arith, c .if1 .left)) ∙ ap plain (sub-below (c .if1 .left))
 
 pub difference-spec : {M : Type 1} → statement M
-difference-spec = tie.close (tie.spec sub-t6 returns returns-2)
+difference-spec = tie.close (tie.spec (λ c. search needs) returns returns-2)

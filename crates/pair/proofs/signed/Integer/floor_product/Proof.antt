@@ -4,16 +4,10 @@ use Rattle.pair.proofs.IntegerForms.{plain-means, below-is, above-is, n
 use Rattle.pair.proofs.signed.Integer.floor_product.Statement.{statement}
 use Rattle.pair.proofs.signed.Integer.floor_product.Tie as tie
 
-negated-requires : tie.Need-negated-requires
-negated-requires c κs = search needs
-
 floor-by-requires : tie.Need-floor-by-requires
 floor-by-requires c κs =
     let s = c .before .before in
     rw (negated-size (s .args .self) (c .negated .ensures)) (s .pre)
-
-floor-by-requires-2 : tie.Need-floor-by-requires-2
-floor-by-requires-2 c κs = search needs
 
 returns : tie.Need-returns
 returns c =
@@ -26,5 +20,4 @@ returns-2 c =
     rw (c .floor-by2 .ensures, above-is (s .args .b) (c .before .if1 .left))
 
 pub floor-product-spec : {M : Type 1} → statement M
-floor-product-spec =
-    tie.close (tie.spec negated-requires floor-by-requires floor-by-requires-2 returns returns-2)
+floor-product-spec = tie.close (tie.spec (λ c κs. search needs) floor-by-requires (λ c κs. search needs) returns returns-2)

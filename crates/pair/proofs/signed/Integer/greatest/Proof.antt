@@ -6,15 +6,6 @@ use Rattle.pair.proofs.IntegerLaws.{lebℤ-true, lebℤ-false, greatest
 use Rattle.pair.proofs.signed.Integer.greatest.Statement.{statement}
 use Rattle.pair.proofs.signed.Integer.greatest.Tie as tie
 
-at-most-requires : tie.Need-at-most-requires
-at-most-requires c κs = search needs
-
-of-requires : tie.Need-of-requires
-of-requires c κs = search needs
-
-of-requires-2 : tie.Need-of-requires-2
-of-requires-2 c κs = search needs
-
 returns : tie.Need-returns
 returns c = c .of .ensures ∙ ap plain (greatest-second (lebℤ-true _ _ (sym (c .before .before .at-most .ensures) ∙ c .before .if1 .taken)))
 
@@ -22,4 +13,4 @@ returns-2 : tie.Need-returns-2
 returns-2 c = c .of2 .ensures ∙ ap plain (greatest-first (lebℤ-false _ _ (sym (c .before .before .at-most .ensures) ∙ c .before .if1 .left)))
 
 pub greatest-spec : {M : Type 1} → statement M
-greatest-spec = tie.close (tie.spec at-most-requires of-requires of-requires-2 returns returns-2)
+greatest-spec = tie.close (tie.spec (λ c κs. search needs) (λ c κs. search needs) (λ c κs. search needs) returns returns-2)

@@ -6,9 +6,6 @@ use Rattle.pair.proofs.IntegerForms.{not-below}
 use Rattle.pair.proofs.signed.Integer.negated.Statement.{statement}
 use Rattle.pair.proofs.signed.Integer.negated.Tie as tie
 
-of-requires : tie.Need-of-requires
-of-requires c κs = search needs
-
 returns : tie.Need-returns
 unfolding integer
 returns c =
@@ -16,4 +13,4 @@ returns c =
     c .of .ensures ∙ ap plain (not-below (a .self .below) (a .self .size))
 
 pub negated-spec : {M : Type 1} → statement M
-negated-spec = tie.close (tie.spec of-requires returns)
+negated-spec = tie.close (tie.spec (λ c κs. search needs) returns)

@@ -6,12 +6,6 @@ use Rattle.pair.proofs.IntegerForms.{below-is, above-is, plus-below, po
 use Rattle.pair.proofs.signed.Integer.plus.Statement.{statement}
 use Rattle.pair.proofs.signed.Integer.plus.Tie as tie
 
-add-of : tie.Need-add-of
-add-of c = search needs
-
-of-requires : tie.Need-of-requires
-of-requires c κs = search needs
-
 returns : tie.Need-returns
 unfolding integer
 returns c =
@@ -19,26 +13,17 @@ returns c =
     rw (below-is (a .self) (c .before .before .before .before .if1 .taken), below-is (a .b) (c .before .before .before .if2 .taken))
     (c .of .ensures ∙ ap plain (plus-below (a .self .size) (a .b .size)))
 
-difference-requires : tie.Need-difference-requires
-difference-requires c κs = search needs
-
 returns-2 : tie.Need-returns-2
 returns-2 c =
     let a = c .before .before .before .args in
     rw (below-is (a .self) (c .before .before .if1 .taken), above-is (a .b) (c .before .if2 .left))
     (c .difference .ensures ∙ ap plain (neg-more (a .self .size) (a .b .size)))
 
-difference-requires-2 : tie.Need-difference-requires-2
-difference-requires-2 c κs = search needs
-
 returns-3 : tie.Need-returns-3
 returns-3 c =
     let a = c .before .before .before .args in
     rw (above-is (a .self) (c .before .before .if1 .left), below-is (a .b) (c .before .if3 .taken))
     (c .difference2 .ensures ∙ ap plain (pos-less (a .self .size) (a .b .size)))
-
-add-t8 : tie.Need-add-t8
-add-t8 c = search needs
 
 returns-4 : tie.Need-returns-4
 unfolding plain
@@ -49,13 +34,5 @@ returns-4 c =
 pub plus-spec : {M : Type 1} → statement M
 plus-spec =
     tie.close
-    (tie.spec
-    add-of
-    of-requires
-    returns
-    difference-requires
-    returns-2
-    difference-requires-2
-    returns-3
-    add-t8
+    (tie.spec (λ c. search needs) (λ c κs. search needs) returns (λ c κs. search needs) returns-2 (λ c κs. search needs) returns-3 (λ c. search needs)
     returns-4)

@@ -5,15 +5,9 @@ use Rattle.pair.specs.Forms.{plainPair}
 use Rattle.pair.proofs.signed.Signed.between.Statement.{statement}
 use Rattle.pair.proofs.signed.Signed.between.Tie as tie
 
-difference-requires : tie.Need-difference-requires
-difference-requires c κs = search needs
-
-difference-requires-2 : tie.Need-difference-requires-2
-difference-requires-2 c κs = search needs
-
 returns : tie.Need-returns
 unfolding plainPair difference
 returns c = λ i. record { lo = c .before .difference .ensures i; hi = c .difference2 .ensures i }
 
 pub between-spec : {M : Type 1} → statement M
-between-spec = tie.close (tie.spec difference-requires difference-requires-2 returns)
+between-spec = tie.close (tie.spec (λ c κs. search needs) (λ c κs. search needs) returns)

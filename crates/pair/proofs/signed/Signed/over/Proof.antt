@@ -12,16 +12,10 @@ use Rattle.pair.proofs.signed.Signed.over.Tie as tie
 room : (c : tie.Start) → OverRoom (c .args .s) (meaning (c .args .self)) (c .args .q)
 room c = over-room _ _ _ (c .pre)
 
-pick-requires : tie.Need-pick-requires
-pick-requires c κs = search needs
-
 floor-by-requires : tie.Need-floor-by-requires
 floor-by-requires c κs =
     let s = c .before .before .before in
     over-word (room s) (low-reach (s .args .self)) (picked-from (s .args .self .lo .below) (c .pick .ensures) (le-refl _) (room s .ends))
-
-pick-requires-2 : tie.Need-pick-requires-2
-pick-requires-2 c κs = search needs
 
 ceil-by-requires : tie.Need-ceil-by-requires
 ceil-by-requires c κs =
@@ -38,5 +32,4 @@ returns c =
     }
 
 pub over-spec : {M : Type 1} → statement M
-over-spec =
-    tie.close (tie.spec pick-requires floor-by-requires pick-requires-2 ceil-by-requires returns)
+over-spec = tie.close (tie.spec (λ c κs. search needs) floor-by-requires (λ c κs. search needs) ceil-by-requires returns)

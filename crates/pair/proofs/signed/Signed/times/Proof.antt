@@ -12,17 +12,11 @@ use Rattle.pair.proofs.signed.Signed.times.Tie as tie
 room : (c : tie.Start) → TimesRoom (c .args .s) (meaning (c .args .self)) (signed (c .args .p))
 room c = times-room _ _ _ (c .pre)
 
-pick-requires : tie.Need-pick-requires
-pick-requires c κs = search needs
-
 floor-by-requires : tie.Need-floor-by-requires
 floor-by-requires c κs =
     let s = c .before .before .before in
     times-word (room s) (low-reach (s .args .self))
     (picked-within (s .args .self .lo .below) (c .pick .ensures) (pair-high (s .args .p)) (pair-low (s .args .p)))
-
-pick-requires-2 : tie.Need-pick-requires-2
-pick-requires-2 c κs = search needs
 
 ceil-by-requires : tie.Need-ceil-by-requires
 ceil-by-requires c κs =
@@ -40,5 +34,4 @@ returns c =
     }
 
 pub times-spec : {M : Type 1} → statement M
-times-spec =
-    tie.close (tie.spec pick-requires floor-by-requires pick-requires-2 ceil-by-requires returns)
+times-spec = tie.close (tie.spec (λ c κs. search needs) floor-by-requires (λ c κs. search needs) ceil-by-requires returns)

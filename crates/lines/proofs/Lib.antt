@@ -1,0 +1,13 @@
+pub mod LentParts
+pub mod DecimalLaws
+pub mod RowLaws
+pub mod SplitLaws
+pub mod LineLaws
+pub mod SpeltLaws
+pub mod ReadSteps
+pub mod ReadFound
+pub mod ReadBack
+pub mod FixedLaws
+pub mod ReadTables
+pub mod ReadLoop
+pub mod Laws

@@ -1,5 +1,0 @@
-pub mod Keys
-pub mod Decimal
-pub mod Lines
-pub mod Reading
-pub mod Forms

@@ -1,0 +1,126 @@
+//! Texts that are to be checked: certificates that pass, misspelt ones, and ones that
+//! do not agree with the working or whose sheet is refused.
+
+use super::Meant::Passes;
+use super::*;
+use crate::named::{SHEET_A, SHEET_B};
+use crate::sheet::{Figures, CERTIFICATE_LINES};
+
+fn passing_certificates() -> Vec<Case> {
+    vec![
+        case("marked_09_a", certificate_of(SHEET_A), Passes),
+        case("marked_10_b", certificate_of(SHEET_B), Passes),
+        case("z_section", certificate_of(z_section()), Passes),
+        case("shift_below_zero", certificate_of(b_turned()), Passes),
+    ]
+}
+
+/// Of sheet A's certificate.
+const MISSPELT: [Misspelling; 6] = [
+    (
+        "01_area_eleven_digits",
+        "area=36000",
+        "area=36000000000",
+        "area",
+    ),
+    ("01_area_minus", "area=36000", "area=-36000", "area"),
+    (
+        "01_axial_leading_zero",
+        "axial=84600",
+        "axial=084600",
+        "axial",
+    ),
+    (
+        "01_shiftlo_minus_zero",
+        "shiftlo=0",
+        "shiftlo=-0",
+        "shiftlo",
+    ),
+    (
+        "01_shifthi_minus_zero",
+        "shifthi=0",
+        "shifthi=-0",
+        "shifthi",
+    ),
+    (
+        "01_shifthi_two_minuses",
+        "shifthi=0",
+        "shifthi=--1",
+        "shifthi",
+    ),
+];
+
+fn misspelt_certificates() -> Vec<Case> {
+    let a = &certificate_of(SHEET_A);
+    let mut cases = vec![
+        case("01_empty", "", refused(1, "form")),
+        with_carriage_returns(a),
+    ];
+    cases.extend(misspelt(a, &[("01_form_x", "form=C", "form=X", "form")]));
+    cases.extend(without_lines(a, &["allow"]));
+    cases.push(case(
+        "01_sheet_as_certificate",
+        text_of(SHEET_A),
+        bad_line(BEHIND_SHEET),
+    ));
+    cases.extend(without_lines(a, &Figures::KEYS));
+    cases.extend(misspelt(a, &MISSPELT));
+    cases.extend(at_the_end(a, CERTIFICATE_LINES));
+    cases
+}
+
+/// Certificates that do not agree with the working, or whose sheet is refused.
+fn wrong_certificates() -> Vec<Case> {
+    let a = &certificate_of(SHEET_A);
+    let b = &certificate_of(SHEET_B);
+    let strong = b.replace("fyb=350", "fyb=701");
+    let long_lip = a.replace("c=1600", "c=2600");
+    let no_allowance = b.replace("allow=10\n", "allow=0\n");
+    let area_too = with_figure_moved(&no_allowance, "area", 1);
+    let deeper = b.replace("h=20000", "h=20100");
+    let large_area = a.replace("area=36000", "area=9999999999");
+    let minus = b
+        .replace("shiftlo=", "shiftlo=-")
+        .replace("shifthi=", "shifthi=-");
+    let mut cases = vec![
+        case("02_fyb_above", strong, refused(2, "fyb")),
+        case("07_long_lip", long_lip, refused(7, "b1")),
+        case("11_no_allowance", no_allowance, refused(11, "allow")),
+        case("11_before_13", area_too, refused(11, "allow")),
+        case("13_another_depth", deeper, refused(13, "area")),
+        case("13_area_ten_digits", large_area, refused(13, "area")),
+        case("13_shifts_with_minus", minus, refused(13, "shiftlo")),
+    ];
+    for key in Figures::KEYS {
+        for (name, by) in [("less", -1), ("more", 1)] {
+            let name = format!("13_{key}_{name}");
+            let moved = with_figure_moved(b, key, by);
+            cases.push(case(name, moved, refused(13, key)));
+        }
+    }
+    cases
+}
+
+/// A certificate with one of its figures changed by so much.
+pub fn with_figure_moved(certificate: &str, key: &str, by: i64) -> String {
+    let moved = |line: &str| match line.split_once('=') {
+        Some((its, figure)) if its == key => {
+            let figure: i64 = figure.parse().expect("a figure");
+            format!("{key}={}\n", figure + by)
+        }
+        _ => format!("{line}\n"),
+    };
+    certificate.lines().map(moved).collect()
+}
+
+/// Texts that are to be checked.
+pub fn certificates() -> Vec<Case> {
+    [
+        passing_certificates(),
+        misspelt_certificates(),
+        wrong_certificates(),
+    ]
+    .into_iter()
+    .flatten()
+    .collect()
+}

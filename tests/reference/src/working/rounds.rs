@@ -1,0 +1,127 @@
+//! The stiffener of each flange, in round 0 and in every refining round.
+
+use super::{half_kept, Lengths, Plane};
+use crate::pair::Pair;
+use crate::rules::{thickness_factor, OUTSTAND, SUPPORTED};
+
+/// The stiffener of one flange in one round.
+#[derive(Clone, Copy, Debug)]
+pub struct Stiffener {
+    pub flange: Plane,
+    pub lip: Plane,
+    pub be2: Pair,
+    pub c_eff: Pair,
+    pub a: Pair,
+    pub g: Pair,
+    pub j: Pair,
+    pub big_t: Pair,
+    pub d: Pair,
+    pub ud: Pair,
+    pub chi: Pair,
+}
+
+/// Both flanges in one round; round 0 is the first working.
+#[derive(Clone, Copy, Debug)]
+pub struct Round {
+    pub kf: Pair,
+    pub stiffeners: [Stiffener; 2],
+}
+
+/// Widths of one stiffener, before the other flange comes in.
+struct Widths {
+    flange: Plane,
+    lip: Plane,
+    be2: Pair,
+    c_eff: Pair,
+    a: Pair,
+    g: Pair,
+}
+
+impl Widths {
+    fn of(lengths: &Lengths, bp: Pair, flange: Plane, lip: Plane) -> Widths {
+        let s = bp.scale;
+        let be2 = half_kept(flange.rho, bp);
+        let c_eff = lip.rho * lengths.cp;
+        let a = be2 + c_eff;
+        let g = bp - be2 * be2 / (s.whole(2) * a);
+        Widths {
+            flange,
+            lip,
+            be2,
+            c_eff,
+            a,
+            g,
+        }
+    }
+
+    /// J = be2×t×t÷12 + c×c×c÷12 + c×c×c×be2÷(4×a), c being c_eff.
+    fn second_moment(&self, t: Pair) -> Pair {
+        let s = t.scale;
+        let (be2, c, a) = (self.be2, self.c_eff, self.a);
+        be2 * t * t / s.whole(12) + c * c * c / s.whole(12) + c * c * c * be2 / (s.whole(4) * a)
+    }
+
+    /// T = fyb×a÷t÷210.
+    fn big_t(&self, lengths: &Lengths) -> Pair {
+        lengths.fyb * self.a / lengths.t / lengths.t.scale.whole(210)
+    }
+
+    /// D, ud and χ, with o for the other flange's g.
+    fn stiffener(&self, lengths: &Lengths, o: Pair, kf: Pair) -> Stiffener {
+        let s = o.scale;
+        let (g, hp) = (self.g, lengths.hp);
+        let j = self.second_moment(lengths.t);
+        let big_t = self.big_t(lengths);
+        let d = g * g * hp + g * g * g + s.exact(1, 2) * g * o * hp * kf;
+        let fourth = d / j * big_t * big_t * s.exact(91, 100) / s.whole(1_000_000);
+        let ud = fourth.root().root();
+        Stiffener {
+            flange: self.flange,
+            lip: self.lip,
+            be2: self.be2,
+            c_eff: self.c_eff,
+            a: self.a,
+            g,
+            j,
+            big_t,
+            d,
+            ud,
+            chi: thickness_factor(ud),
+        }
+    }
+}
+
+impl Round {
+    /// One round from u² of both flanges and of both lips.
+    fn of(lengths: &Lengths, flange_u2: [Pair; 2], lip_u2: [Pair; 2]) -> Round {
+        let widths = [0, 1].map(|i| {
+            let flange = Plane::of(flange_u2[i], SUPPORTED);
+            let lip = Plane::of(lip_u2[i], OUTSTAND);
+            Widths::of(lengths, lengths.bp[i], flange, lip)
+        });
+        let kf = widths[1].a / widths[0].a;
+        let stiffeners = [
+            widths[0].stiffener(lengths, widths[1].g, kf),
+            widths[1].stiffener(lengths, widths[0].g, kf),
+        ];
+        Round { kf, stiffeners }
+    }
+}
+
+/// Round 0 and the refining rounds. A refining round multiplies the first u²
+/// by its own flange's χ of the round before.
+pub(super) fn all_rounds(
+    lengths: &Lengths,
+    flange_u2: [Pair; 2],
+    lip_u2: [Pair; 2],
+    refining: u64,
+) -> Vec<Round> {
+    let mut rounds = vec![Round::of(lengths, flange_u2, lip_u2)];
+    for _ in 0..refining {
+        let chi = rounds[rounds.len() - 1].stiffeners.map(|s| s.chi);
+        let flange = [0, 1].map(|i| flange_u2[i] * chi[i]);
+        let lip = [0, 1].map(|i| lip_u2[i] * chi[i]);
+        rounds.push(Round::of(lengths, flange, lip));
+    }
+    rounds
+}
