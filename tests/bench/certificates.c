@@ -341,12 +341,15 @@ static Work *refused_at_question_2(const char *name) {
     return w;
 }
 
-// With no allowance: those that are refused for it.
-static Work *refused_at_question_11(const char *name) {
-    Work *w = on_numbers(name, 3, 0);
+static int unequal_flanges(Sheet sheet) { return sheet.n[B1] != sheet.n[B2]; }
+
+static int not_allowed(Sheet sheet) { return refusal_of(sheet) == 11; }
+
+// Those of the sheets alone that are so.
+static Work *only(int (*so)(Sheet), Work *w) {
     w->count = 0;
     for (int i = 0; i < SHEETS; i++)
-        if (refusal_of(w->sheets[i]) == 11) w->sheets[w->count++] = w->sheets[i];
+        if (so(w->sheets[i])) w->sheets[w->count++] = w->sheets[i];
     return w;
 }
 
@@ -368,11 +371,12 @@ static void times(void) {
     Times none = measure(on_numbers("rounds=0", 0, 1000));
     Times three = measure(on_numbers("rounds=3", 3, 1000));
     Times eight = measure(on_numbers("rounds=8", 8, 1000));
+    measure(only(unequal_flanges, on_numbers("unequal, rounds=3", 3, 1000)));
     measure(sheet_b_alone("sheet B alone, rounds=3"));
     measure(on_texts("from text, rounds=3", WRITE));
     measure(on_texts("check, rounds=3", CHECK));
     measure(refused_at_question_2("refusal at question 2"));
-    measure(refused_at_question_11("refusal at question 11"));
+    measure(only(not_allowed, on_numbers("refusal at question 11", 3, 0)));
     printf("\nns for a refining round, from 0 to 8 (from 0 to 3):");
     for (int g = 0; g < GROUPS; g++)
         printf("%s %s %.0f (%.0f)", g ? ";" : "", group_names[g], (eight.ns[g] - none.ns[g]) / 8,

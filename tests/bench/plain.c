@@ -133,23 +133,22 @@ static void widths(const Section *section, Stiffener *s, Ends bp, Ends plane, En
     s->g = minus(bp, over(times(s->be2, s->be2), times(whole(2), s->a)));
 }
 
-static Ends thickness_factor(const Section *section, const Stiffener *s, Ends o, Ends kf) {
+static Ends thickness_factor(const Section *section, const Stiffener *s, const Stiffener *other) {
     Ends cube = times(times(s->c, s->c), s->c);
     Ends flat = over(times(times(s->be2, section->t), section->t), whole(12));
     Ends far = over(times(cube, s->be2), times(whole(4), s->a));
     Ends j = plus(plus(flat, over(cube, whole(12))), far);
     Ends load = over(over(times(section->fyb, s->a), section->t), whole(210));
     Ends square = times(s->g, s->g);
-    Ends cross = times(times(times(times(exact(1, 2), s->g), o), section->hp), kf);
+    Ends kf = over(other->a, s->a);
+    Ends cross = times(times(times(times(exact(1, 2), s->g), other->g), section->hp), kf);
     Ends d = plus(plus(times(square, section->hp), times(square, s->g)), cross);
     Ends product = times(times(over(d, j), load), load);
     return factor(root(root(over(times(product, exact(91, 100)), whole(1000000)))));
 }
 
 static void factors(const Section *section, Stiffener s[2]) {
-    Ends kf = over(s[1].a, s[0].a);
-    s[0].chi = thickness_factor(section, &s[0], s[1].g, kf);
-    s[1].chi = thickness_factor(section, &s[1], s[0].g, kf);
+    for (int i = 0; i < 2; i++) s[i].chi = thickness_factor(section, &s[i], &s[1 - i]);
 }
 
 static void refine(const Section *section, Stiffener s[2]) {

@@ -1,4 +1,5 @@
--- The thirteen marked cases of document 01, in its order: what is worked by our definitions, and what the paper expects of it.
+-- The thirteen marked cases of document 01, in its order, the tenth as document 02 amends it (W-201): what is worked by our definitions, and what
+-- the paper expects of it.
 -- Pairs are in millionths, the units of our scale. One theorem shows the list: `marked-cases` of proofs/Marked.
 use Prim.Native.Nat.{ℕ}
 use mathlib.Core.List.{List, [], _∷_, _++_}
@@ -95,12 +96,12 @@ marked =
     ∷ (k 1 (exact 475000) gives exact 707500)
     -- 9. Sheet A gives its lines and the six behind them
     ∷ (outcome sheetA room gives written (sheetA ++ bytes "area=36000\naxial=84600\nchi1=1000\nchi2=1000\nshiftlo=0\nshifthi=0\n"))
-    -- 10. Sheet B: the figures that its certificate shows
+    -- 10. Sheet B: the figures that its certificate shows (W-201)
     ∷ (figuresB .chi1 gives 693
-    also figuresB .chi2 gives 749
-    also pos (figuresB .area) lies-between pos 43820 and pos 43860
-    also figuresB .shiftlo lies-between pos 138 and pos 147
-    also figuresB .shifthi lies-between pos 138 and pos 147)
+    also figuresB .chi2 gives 740
+    also pos (figuresB .area) lies-between pos 43740 and pos 43770
+    also figuresB .shiftlo lies-between pos 120 and pos 128
+    also figuresB .shifthi lies-between pos 120 and pos 128)
     -- 11. B with allow=0: its number and line, and length 0, as for the two behind it
     ∷ (answerOf refusalAnswer (outcome sheet11 room) gives answer 11 12 0)
     -- 12. A with c=2600

@@ -2,7 +2,7 @@
 -- a finer pair inside a coarser one gives a finer result inside the coarser result, and ends stay in order.
 use mathlib.Core.Path.{_≡_, refl, sym, ap, subst}
 use mathlib.Core.Bool.{true}
-use Prim.Native.Nat.{ℕ, _*_, _/_, _<_}
+use Prim.Native.Nat.{ℕ, _+_, _*_, _/_, _<_}
 use native.Mathlib.Nat.{le-refl, le-trans, mul-le-mul, mul-le-mul-left, mul-le-mul-right, mul-comm, mul-pos}
 use native.Mathlib.Omega.{arith}
 use Rattle.pair.specs.Rounding.{ceilDiv}
@@ -75,6 +75,21 @@ times-inside {m} {s} {s′} {P} {p} {Q} {q} h i j =
 pub times-comm : (s : ℕ) (p q : Pair) → times s p q ≡ times s q p
 unfolding times
 times-comm s p q = λ i. (mul-comm (p .lo) (q .lo) i / s) to ceilDiv (mul-comm (p .hi) (q .hi) i) s
+
+-- the two terms of a sum may be exchanged, and the last two of three
+pub plus-comm : (p q : Pair) → plus p q ≡ plus q p
+unfolding plus
+plus-comm p q =
+    let low : p .lo + q .lo ≡ q .lo + p .lo = omega arith in
+    let high : p .hi + q .hi ≡ q .hi + p .hi = omega arith in
+    λ i. low i to high i
+
+pub plus-right-comm : (p q r : Pair) → plus (plus p q) r ≡ plus (plus p r) q
+unfolding plus
+plus-right-comm p q r =
+    let low : p .lo + q .lo + r .lo ≡ p .lo + r .lo + q .lo = omega arith in
+    let high : p .hi + q .hi + r .hi ≡ p .hi + r .hi + q .hi = omega arith in
+    λ i. low i to high i
 
 -- where one divides, the coarser divisor's lower end is above zero
 pub over-inside : {m s s′ : ℕ} {P p Q q : Pair} → Finer m s s′ → Positive q → Inside m P p → Inside m Q q → Inside m (over s′ P Q) (over s p q)

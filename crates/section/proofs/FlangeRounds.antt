@@ -23,7 +23,7 @@ use Rattle.section.proofs.Ends.{scale}
 use Rattle.section.proofs.Factor.{χ-box}
 use Rattle.section.proofs.Formulas.{stiffener-inside, g-inside, J-inside, χ-of-inside}
 use Rattle.section.proofs.BoxRooms.{box-positive, box-slim, over-room}
-use Rattle.section.proofs.SheetNumbers.{FlangeNumbers}
+use Rattle.section.proofs.SheetNumbers.{FlangeNumbers, Beside}
 use Rattle.section.proofs.SizesOfWidths.{FlangeBox}
 use Rattle.section.proofs.SizesOfStiffeners.{StiffenerBox, stiffener-box, stiffener-range, g-thin, g-wide, J-box, inertia-room, T-box, stress-room}
 use Rattle.section.proofs.SizesOfFactors.{D-box, bend-room, ud-box, ud-room}
@@ -52,16 +52,16 @@ box-divisors {n} {t} f v b =
     let t⁺ : 0 < t = omega arith in
     record { a = box-positive f (lit< tt) (stiffener-range n f v b .a); J = box-positive f (omega (arith, mul-pos t⁺ t⁺)) (J-box n f v b) }
 
--- kf = a of flange 2 ÷ a of flange 1 is at most 6 where flange 2 is not too wide beside flange 1; exchanged, the other quotient
-module _ {n t fyb γ β₁ β₂ : ℕ} (f : Fine n) (v : FlangeNumbers t fyb γ β₁) (near : 5000 * β₂ ≤ 14400 * β₁ + 4000 * γ)
-    {s₁ s₂ : Stiffener} (b₁ : StiffenerBox n γ β₁ s₁) (b₂ : StiffenerBox n γ β₂ s₂) where
-  pub kf-box : Inside n (kf n s₁ s₂) (0 to 6000000)
+-- kf of a flange of width β is at most 6 where the other flange, of width β′, is not too wide beside it
+module _ {n t fyb γ β β′ : ℕ} (f : Fine n) (v : FlangeNumbers t fyb γ β) (near : Beside γ β β′)
+    {s s′ : Stiffener} (b : StiffenerBox n γ β s) (b′ : StiffenerBox n γ β′ s′) where
+  pub kf-box : Inside n (kf n s s′) (0 to 6000000)
   unfolding kf
-  kf-box = over-box 0 6000000 (scale f) (omega arith) (omega arith) (b₂ .a) (b₁ .a) (omega arith) (omega arith)
+  kf-box = over-box 0 6000000 (scale f) (omega arith) (omega arith) (b′ .a) (b .a) (omega arith) (omega arith)
 
-  pub kf-room : overFits (S n) (s₂ .a) (s₁ .a) ≡ true
+  pub kf-room : overFits (S n) (s′ .a) (s .a) ≡ true
   unfolding kf
-  kf-room = over-room f (s₂ .a) (s₁ .a) (omega arith) (b₁ .a) kf-box (lit≤ tt)
+  kf-room = over-room f (s′ .a) (s .a) (omega arith) (b .a) kf-box (lit≤ tt)
 
 pub record RefinedBox (n γ β : ℕ) (r : RefinedFlange) : Type 0 where
   pub stiffener : StiffenerBox n γ β (r .stiffener)

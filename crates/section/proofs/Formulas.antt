@@ -79,9 +79,9 @@ module _ {n m : ℕ} (n⁺ : 0 < n) (m⁺ : 0 < m) where
   unfolding T
   T-inside t⁺ t fyb s = search inside depth 20
 
-  pub kf-inside : {s₁ s₁′ s₂ s₂′ : Stiffener} → Positive (s₁ .a) → StiffenerInside m s₁′ s₁ → StiffenerInside m s₂′ s₂ → Inside m (kf (m * n) s₁′ s₂′) (kf n s₁ s₂)
+  pub kf-inside : {s s′ o o′ : Stiffener} → Positive (s .a) → StiffenerInside m s′ s → StiffenerInside m o′ o → Inside m (kf (m * n) s′ o′) (kf n s o)
   unfolding kf
-  kf-inside a⁺ s₁ s₂ = search inside depth 20
+  kf-inside a⁺ s o = search inside depth 20
 
   pub D-inside : {hp hp′ kf kf′ g g′ o o′ : Pair} → Inside m hp′ hp → Inside m kf′ kf → Inside m g′ g → Inside m o′ o → Inside m (D (m * n) hp′ kf′ g′ o′) (D n hp kf g o)
   unfolding D

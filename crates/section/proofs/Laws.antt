@@ -13,7 +13,7 @@ pub use Rattle.section.proofs.Rising.{Rises}
 pub use Rattle.section.proofs.Coefficient.{k-rises, k-inside, k-positive, k-box}
 -- one flange's part of a round, with its own kf or refined alone (kf = 0): a finer one lies inside a coarser one, and its size
 pub use Rattle.section.proofs.PartsInside.{FlangeInside, StiffenerInside, RefinedInside, RoundInside, CommonInside, MemberInside}
-pub use Rattle.section.proofs.SheetNumbers.{FlangeNumbers, SectionNumbers, section-numbers}
+pub use Rattle.section.proofs.SheetNumbers.{FlangeNumbers, Beside, SectionNumbers, section-numbers}
 pub use Rattle.section.proofs.SizesOfWidths.{FlangeBox}
 pub use Rattle.section.proofs.SizesOfStiffeners.{StiffenerBox, g-thin}
 pub use Rattle.section.proofs.FlangeRounds.{StiffenerDivisors, divisors-finer, box-divisors, refined-inside, RefinedBox, kf-box, refined-box}

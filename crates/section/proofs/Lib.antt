@@ -28,6 +28,7 @@ pub mod Printing
 pub mod PrintedFigures
 pub mod NothingCut
 pub mod NothingZero
+pub mod Exchange
 pub mod Theorems
 pub mod SheetValues
 pub mod Laws

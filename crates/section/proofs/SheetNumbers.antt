@@ -34,12 +34,17 @@ pub record FlangeNumbers (t fyb γ β : ℕ) : Type 0 where
   pub slim : β ≤ 60 * t
   pub ratio : 5 * γ ≤ 6 * β
 
--- a section: depth d and widths β₁ and β₂ between mid-lines, in 0.01 mm, and lips of γ, in 0.005 mm; near: a of flange 2 is at most six times a of flange 1
+-- beside a flange of width β, one of width other is not too wide: its a is at most six times that flange's a
+pub record Beside (γ β other : ℕ) : Type 0 where
+  pub near : 5000 * other ≤ 14400 * β + 4000 * γ
+
+-- a section: depth d and widths β₁ and β₂ between mid-lines, in 0.01 mm, and lips of γ, in 0.005 mm
 pub record SectionNumbers (t fyb d γ β₁ β₂ : ℕ) : Type 0 where
   pub web : WebNumbers t fyb d
   pub one : FlangeNumbers t fyb γ β₁
   pub two : FlangeNumbers t fyb γ β₂
-  pub near : 5000 * β₂ ≤ 14400 * β₁ + 4000 * γ
+  pub near-one : Beside γ β₁ β₂
+  pub near-two : Beside γ β₂ β₁
 
 module _ {n : ℕ} (f : Fine n) where
   -- mid-line lengths
@@ -76,7 +81,7 @@ module _ {n : ℕ} (f : Fine n) where
 
 module _ {q : Sheet} (s : Sound q) where
   pub section-numbers : SectionNumbers (q .t .0) (q .fyb) (q .h - q .tnom .0) (2 * q .c - q .tnom .0) (q .b1 - q .tnom .0) (q .b2 - q .tnom .0)
-  section-numbers = record { web = omega arith; one = omega arith; two = omega arith; near = omega arith }
+  section-numbers = record { web = omega arith; one = omega arith; two = omega arith; near-one = omega arith; near-two = omega arith }
 
   module _ {n : ℕ} (f : Fine n) where
     pub hp-room : MidRoom n (q .h) (q .tnom .0)

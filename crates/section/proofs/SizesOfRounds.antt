@@ -43,8 +43,11 @@ module _ {n : ℕ} (f : Fine n) where
 
     -- both flanges, from boxes of their stiffeners
     module _ {s₁ s₂ : Stiffener} (a₁ : StiffenerBox n γ β₁ s₁) (a₂ : StiffenerBox n γ β₂ s₂) where
-      kf-in : Inside n (kf n s₁ s₂) (0 to 6000000)
-      kf-in = kf-box f (b .numbers .one) (b .numbers .near) a₁ a₂
+      kf₁-in : Inside n (kf n s₁ s₂) (0 to 6000000)
+      kf₁-in = kf-box f (b .numbers .one) (b .numbers .near-one) a₁ a₂
+
+      kf₂-in : Inside n (kf n s₂ s₁) (0 to 6000000)
+      kf₂-in = kf-box f (b .numbers .two) (b .numbers .near-two) a₂ a₁
 
       factors-room : FactorsRoom n (x .common) (x .one .bp) (x .two .bp) s₁ s₂
       factors-room =
@@ -54,9 +57,10 @@ module _ {n : ℕ} (f : Fine n) where
             fine = f;
             one-g = centre-room n f v₁ a₁ (b .one .bp);
             two-g = centre-room n f v₂ a₂ (b .two .bp);
-            ratio = kf-room f v₁ (b .numbers .near) a₁ a₂;
-            one = factor-room f (x .common) v₁ hp-in kf-in (g-thin n f v₂ a₂ (b .two .bp)) (b .one .bp) a₁;
-            two = factor-room f (x .common) v₂ hp-in kf-in (g-thin n f v₁ a₁ (b .one .bp)) (b .two .bp) a₂;
+            one-kf = kf-room f v₁ (b .numbers .near-one) a₁ a₂;
+            two-kf = kf-room f v₂ (b .numbers .near-two) a₂ a₁;
+            one = factor-room f (x .common) v₁ hp-in kf₁-in (g-thin n f v₂ a₂ (b .two .bp)) (b .one .bp) a₁;
+            two = factor-room f (x .common) v₂ hp-in kf₂-in (g-thin n f v₁ a₁ (b .one .bp)) (b .two .bp) a₂;
           }
 
     -- one round, from factors of at most 1
@@ -72,10 +76,11 @@ module _ {n : ℕ} (f : Fine n) where
       round-box =
           let v₁ = b .numbers .one in
           let v₂ = b .numbers .two in
-          let k = kf-in stiffener₁ stiffener₂ in
+          let k₁ = kf₁-in stiffener₁ stiffener₂ in
+          let k₂ = kf₂-in stiffener₁ stiffener₂ in
           record {
-            one = refined-box f (x .common) v₁ hp-in k (g-thin n f v₂ stiffener₂ (b .two .bp)) (x .one) χ₁ (b .cp) (b .one) h₁;
-            two = refined-box f (x .common) v₂ hp-in k (g-thin n f v₁ stiffener₁ (b .one .bp)) (x .two) χ₂ (b .cp) (b .two) h₂;
+            one = refined-box f (x .common) v₁ hp-in k₁ (g-thin n f v₂ stiffener₂ (b .two .bp)) (x .one) χ₁ (b .cp) (b .one) h₁;
+            two = refined-box f (x .common) v₂ hp-in k₂ (g-thin n f v₁ stiffener₁ (b .one .bp)) (x .two) χ₂ (b .cp) (b .two) h₂;
           }
 
     steady : Steady n x

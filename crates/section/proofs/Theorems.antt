@@ -1,13 +1,15 @@
 -- What is proved of written constants, and of every sheet that meets questions 2 to 10, in one place.
 use Prim.Native.Nat.{ℕ, _*_, _<_}
+use mathlib.Core.List.{List, _∷_}
 use native.Mathlib.Omega.{arith}
 use Rattle.section.specs.declared.Sheet.{Sheet}
-use Rattle.section.specs.Sheets.{fineness}
+use Rattle.section.specs.Sheets.{sheetOf, fineness}
 use Rattle.section.specs.Sound.{Question2, Sound}
 use Rattle.section.specs.Working.{worked}
 use Rattle.section.specs.Figures.{figures, own-figures, Question11, WithinPrinted}
 use Rattle.section.specs.Parts.{Fine}
 use Rattle.section.specs.Nested.{WorkedInside}
+use Rattle.section.specs.Exchanged.{FlangesExchanged}
 use Rattle.section.specs.Uncut.{Uncut, QuestionsUncut}
 use Rattle.section.specs.Divisors.{DivisorsAboveZero}
 use Rattle.section.specs.Constants.{ConstantsExact}
@@ -18,6 +20,7 @@ use Rattle.section.proofs.SizesOfSheets.{sound-divisors}
 use Rattle.section.proofs.PrintedFigures.{FiguresBelow, figures-below}
 use Rattle.section.proofs.NothingCut.{uncut, questions-uncut}
 use Rattle.section.proofs.NothingZero.{nothing-zero}
+use Rattle.section.proofs.Exchange.{figures-exchanged}
 
 -- written constants and sheet numbers are exact, at any scale
 pub constants-exact : {n : ℕ} → 0 < n → ConstantsExact n
@@ -48,6 +51,12 @@ finer-working-held q n⁺ m⁺ s a =
 pub fineness-fine : (q : Sheet) → Question2 q → Fine (fineness q)
 unfolding fineness
 fineness-fine q h = record { some = omega arith; most = omega arith }
+
+-- two sheets that are alike but for b1 and b2, which are exchanged, have chi1 and chi2 exchanged, and the same area and axial resistance
+pub flanges-exchanged : (form h b1 b2 : ℕ) (rest : List ℕ)
+    → FlangesExchanged (own-figures (sheetOf (form ∷ h ∷ b1 ∷ b2 ∷ rest))) (own-figures (sheetOf (form ∷ h ∷ b2 ∷ b1 ∷ rest)))
+unfolding fineness sheetOf
+flanges-exchanged form h b1 b2 rest = figures-exchanged (fineness (sheetOf (form ∷ h ∷ b1 ∷ b2 ∷ rest))) form h b1 b2 rest
 
 -- no printed figure has more than ten digits
 pub figures-have-ten-digits : (q : Sheet) → Sound q → FiguresBelow 10000000000 (own-figures q)

@@ -50,10 +50,11 @@ module _ {n m : ℕ} (n⁺ : 0 < n) (m⁺ : 0 < m) where
         let s₂ = stiffener-inside n⁺ m⁺ (x-in .common .cp) (x-in .two) χ₂-in in
         let g₁ = g-inside n⁺ m⁺ (d .one .a) (x-in .one .bp) s₁ in
         let g₂ = g-inside n⁺ m⁺ (d .two .a) (x-in .two .bp) s₂ in
-        let k = kf-inside n⁺ m⁺ (d .one .a) s₁ s₂ in
+        let k₁ = kf-inside n⁺ m⁺ (d .one .a) s₁ s₂ in
+        let k₂ = kf-inside n⁺ m⁺ (d .two .a) s₂ s₁ in
         record {
-          one = refined-inside n⁺ m⁺ t⁺ (x-in .common) (x-in .one) (d .one) χ₁-in k g₂;
-          two = refined-inside n⁺ m⁺ t⁺ (x-in .common) (x-in .two) (d .two) χ₂-in k g₁;
+          one = refined-inside n⁺ m⁺ t⁺ (x-in .common) (x-in .one) (d .one) χ₁-in k₁ g₂;
+          two = refined-inside n⁺ m⁺ t⁺ (x-in .common) (x-in .two) (d .two) χ₂-in k₂ g₁;
         }
 
     module _ (d : (i : ℕ) → RoundDivisors n (core n (x .common)) (rounds n x i)) where

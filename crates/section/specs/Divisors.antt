@@ -22,7 +22,7 @@ module _ (n : ℕ) where
     pub twice-a : AboveZero (times (S n) (whole n 2) (s .a))
     -- J = … + c_eff×c_eff×c_eff×be2÷(4×a)
     pub four-a : AboveZero (times (S n) (whole n 4) (s .a))
-    -- kf = a of flange 2 ÷ a of flange 1
+    -- kf of the flange: a of the other ÷ its own a
     pub a : AboveZero (s .a)
     -- ud: D÷J×T×T×0.91÷1000000
     pub J : AboveZero (J n t s)

@@ -3,6 +3,7 @@ pub mod Sound
 pub mod Working
 pub mod Figures
 pub mod Forms
+pub mod Exchanged
 pub mod Nested
 pub mod Parts
 pub mod Room

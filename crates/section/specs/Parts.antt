@@ -34,7 +34,7 @@ module _ (n : ℕ) where
       let g₂ = g n bp₂ s₂ in
       record {
         one = record { stiffener = s₁; chi = χ-of n y (kf n s₁ s₂) g₁ g₂ s₁ };
-        two = record { stiffener = s₂; chi = χ-of n y (kf n s₁ s₂) g₂ g₁ s₂ };
+        two = record { stiffener = s₂; chi = χ-of n y (kf n s₂ s₁) g₂ g₁ s₂ };
       }
 
   abbrev pub effective-of : Sheet → EffectiveParts

@@ -187,9 +187,10 @@ module _ (n : ℕ) where
     pub fine : Fine n
     pub one-g : CentreRoom bp₁ s₁
     pub two-g : CentreRoom bp₂ s₂
-    pub ratio : overFits (S n) (s₂ .a) (s₁ .a) ≡ true
+    pub one-kf : overFits (S n) (s₂ .a) (s₁ .a) ≡ true
+    pub two-kf : overFits (S n) (s₁ .a) (s₂ .a) ≡ true
     pub one : FactorRoom y (kf n s₁ s₂) (g n bp₁ s₁) (g n bp₂ s₂) s₁
-    pub two : FactorRoom y (kf n s₁ s₂) (g n bp₂ s₂) (g n bp₁ s₁) s₂
+    pub two : FactorRoom y (kf n s₂ s₁) (g n bp₂ s₂) (g n bp₁ s₁) s₂
 
   pub record RoundRoom (x : Member) (χ₁ χ₂ : Pair) : Type 0 where
     pub one : StiffenerRoom (x .common .cp) (x .one) χ₁

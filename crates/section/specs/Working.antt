@@ -1,5 +1,5 @@
--- The working of a section, in document 01's order and with its symbols, one definition for each formula. docs/WORKING.md has the same in words;
--- the numbers in brackets are its sections.
+-- The working of a section, in document 01's order and with its symbols, one definition for each formula, as document 02 amends it (W-201: kf).
+-- docs/WORKING.md has the same in words; the numbers in brackets are its sections.
 -- n is the fineness: the scale S is n × 1,000,000. At n = 1 this is the paper's own working, and at m × n the same paper with S replaced by m × S.
 use Prim.Native.Nat.{ℕ, zero, suc, _-_, _*_, _/_, min, max}
 use mathlib.Core.Bool.{cond}
@@ -149,9 +149,9 @@ module _ (n : ℕ) where
   unfoldable pub T : Pair → Pair → Stiffener → Pair
   T t fyb s = fyb ⊗ s .a ⊘ t ⊘ whole 210
 
-  -- kf = a of flange 2 ÷ a of flange 1
+  -- kf of a flange, from its own stiffener and the other's: for flange 1 a of flange 2 ÷ a of flange 1, for flange 2 a of flange 1 ÷ a of flange 2 (W-201)
   unfoldable pub kf : Stiffener → Stiffener → Pair
-  kf s₁ s₂ = s₂ .a ⊘ s₁ .a
+  kf own other = other .a ⊘ own .a
 
   -- D = g×g×hp + g×g×g + 0.5×g×o×hp×kf, o being the other flange's g
   unfoldable pub D : Pair → Pair → Pair → Pair → Pair
@@ -191,14 +191,14 @@ module _ (n : ℕ) where
       let s = stiffener-of (y .cp) f χ₀ in
       record { stiffener = s; chi = χ-of y kf (g (f .bp) s) o s }
 
-  -- one round, from both flanges' χ of the round before; one kf serves both (10)
+  -- one round, from both flanges' χ of the round before; each flange has its own kf (10)
   unfoldable pub round : Member → Pair → Pair → Round
   round x χ₁ χ₂ =
       let s₁ = stiffener-of (x .common .cp) (x .one) χ₁ in
       let s₂ = stiffener-of (x .common .cp) (x .two) χ₂ in
       record {
         one = refined-flange (x .common) (x .one) χ₁ (kf s₁ s₂) (g (x .two .bp) s₂);
-        two = refined-flange (x .common) (x .two) χ₂ (kf s₁ s₂) (g (x .one .bp) s₁);
+        two = refined-flange (x .common) (x .two) χ₂ (kf s₂ s₁) (g (x .one .bp) s₁);
       }
 
   -- the first working, at χ = 1, and as many refining rounds as the sheet says

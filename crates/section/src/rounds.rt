@@ -99,8 +99,8 @@ fn fourth_of(n: u64, y: Common, kf: Pair, g: Pair, o: Pair, s: Stiffener) -> Pai
     stiffeners::slenderness_fourth(n, d, j, load)
 }
 
-// A round, from both flanges' widths and stiffeners; one kf serves both, and both roots are worked side
-// by side.
+// A round, from both flanges' widths and stiffeners; each flange has its own kf (W-201), and both roots
+// are worked side by side.
 fn unequal_factors(n: u64, y: Common, bp1: Pair, bp2: Pair, one: Stiffener, two: Stiffener) -> Round
     requires { ⌜ FactorsRoom n y bp1 bp2 one two ⌝ }
     ensures { λ r. ⌜ r ≡ factors n y bp1 bp2 one two ⌝ }
@@ -108,9 +108,10 @@ fn unequal_factors(n: u64, y: Common, bp1: Pair, bp2: Pair, one: Stiffener, two:
     let s = n * 1_000_000;
     let g1 = stiffeners::centre(n, bp1, one);
     let g2 = stiffeners::centre(n, bp2, two);
-    let kf = two.a.over(one.a, s);
-    let fourth1 = fourth_of(n, y, kf, g1, g2, one);
-    let fourth2 = fourth_of(n, y, kf, g2, g1, two);
+    let kf1 = two.a.over(one.a, s);
+    let kf2 = one.a.over(two.a, s);
+    let fourth1 = fourth_of(n, y, kf1, g1, g2, one);
+    let fourth2 = fourth_of(n, y, kf2, g2, g1, two);
     let squares = fourth1.roots(fourth2, s);
     let u = squares.one.roots(squares.two, s);
     let chi1 = factors::factor(n, u.one);

@@ -50,7 +50,7 @@ pub fn line<T: Display>(numbers: &[T]) -> String {
 }
 
 /// Ends of area, chi1, chi2 and shift, then the printed figures.
-fn result_line(sheet: &Sheet, working: &Working) -> String {
+pub fn result_line(sheet: &Sheet, working: &Working) -> String {
     let [chi1, chi2] = working.parts.chi;
     let mut numbers = Vec::new();
     for pair in [working.area, chi1, chi2, working.shift] {

@@ -47,7 +47,7 @@ fn factor(ud: f64) -> f64 {
     }
 }
 
-/// Critical stress 2√(K E Is)/As of one stiffener, the other's b1 being o.
+/// Critical stress 2√(K E Is)/As of one stiffener, which 000 always calls 1, the other's b1 being o.
 fn critical_stress(be2: f64, c: f64, t: f64, b1: f64, o: f64, hp: f64, kf: f64) -> f64 {
     let area = t * (be2 + c);
     let axis = c * c / (2.0 * (be2 + c));
@@ -97,9 +97,10 @@ fn plain(sheet: &Sheet) -> Plain {
             be1 = be2;
         }
         let b = [0, 1].map(|i| bp[i] - be2[i].powi(2) / 2.0 / (be2[i] + c[i]));
-        let kf = (be2[1] + c[1]) / (be2[0] + c[0]);
         for i in 0..2 {
-            let stress = critical_stress(be2[i], c[i], t, b[i], b[1 - i], hp, kf);
+            let o = 1 - i;
+            let kf = (be2[o] + c[o]) / (be2[i] + c[i]);
+            let stress = critical_stress(be2[i], c[i], t, b[i], b[o], hp, kf);
             let ud = (fyb / stress).sqrt();
             chi[i] = factor(ud);
             met.push(ud);

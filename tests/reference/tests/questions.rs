@@ -1,6 +1,6 @@
 //! The questions in their order, on numbers and as text.
 
-use reference::cases::with;
+use reference::cases::{with, with_figure};
 use reference::named::{LIP_LONG_ON_MID_LINES, SHEET_A, SHEET_B};
 use reference::sheet::place::ALLOW;
 use reference::sheet::{ask_numbers, Figures, Sheet, CERTIFICATE_LINES, RANGES};
@@ -200,17 +200,17 @@ fn question_1_on_certificates() {
     assert_eq!(checked(&longer), (1, BEHIND_CERTIFICATE));
     let shorter = &certificate[..certificate.len() - 1];
     assert_eq!(checked(shorter), (1, CERTIFICATE_LINES as u64));
-    for (key, right, wrong) in [
-        ("area", "", "-"),
-        ("chi1", "", "0"),
-        ("shiftlo", "142", "-0"),
-        ("shifthi", "143", "-0143"),
-        ("shifthi", "143", "--143"),
-        ("shifthi", "143", "-"),
+    // V stands for the right value.
+    for (key, wrong) in [
+        ("area", "-V"),
+        ("chi1", "0V"),
+        ("shiftlo", "-0"),
+        ("shifthi", "-0V"),
+        ("shifthi", "--V"),
+        ("shifthi", "-"),
     ] {
-        let [right, wrong] = [right, wrong].map(|value| format!("\n{key}={value}"));
-        let text = certificate.replace(&right, &wrong);
-        assert_eq!(checked(&text), (1, line_of(key)), "{wrong}");
+        let text = with_figure(&certificate, key, |value| wrong.replace('V', value));
+        assert_eq!(checked(&text), (1, line_of(key)), "{key}={wrong}");
     }
 }
 

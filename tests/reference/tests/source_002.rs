@@ -1,7 +1,10 @@
-//! Sheet B against the values that source 002 prints.
+//! Sheet B against the values that source 002 prints. 002 has one kf for both flanges,
+//! flange 1's own; flange 2 has its own now (W-201), so what 002 prints of flange 2's
+//! slenderness and factor is worked here with 002's kf.
 
 use reference::named::SHEET_B;
 use reference::pair::{Pair, Scale};
+use reference::rules::thickness_factor;
 use reference::sheet::Sheet;
 use reference::working::{worked, Parts, Working};
 
@@ -29,6 +32,23 @@ fn assert_all_round(printed: &[(Pair, &str)]) {
 
 fn sheet_b() -> Working {
     worked(&SHEET_B)
+}
+
+/// ud of flange 2 in a round, from kf of flange 1.
+fn ud2_by_002(b: &Working, round: usize) -> Pair {
+    let [one, two] = b.rounds[round].stiffeners;
+    let (s, g, o, hp) = (b.scale, two.g, one.g, b.lengths.hp);
+    let d = g * g * hp + g * g * g + s.exact(1, 2) * g * o * hp * one.kf;
+    let fourth = d / two.j * two.big_t * two.big_t * s.exact(91, 100) / s.whole(1_000_000);
+    fourth.root().root()
+}
+
+/// The parts that carry, with χ2 from kf of flange 1 in the last round. Flange 2 is full
+/// there, whichever χ2 the round before had.
+fn parts_by_002(b: &Working) -> Parts {
+    let mut parts = b.parts;
+    parts.chi[1] = thickness_factor(ud2_by_002(b, b.rounds.len() - 1));
+    parts
 }
 
 #[test]
@@ -85,21 +105,20 @@ fn parts_that_count() {
 #[test]
 fn stiffeners_before_refining() {
     let b = sheet_b();
-    let first = b.rounds[0];
-    let [one, two] = first.stiffeners;
+    let [one, two] = b.rounds[0].stiffeners;
     let t = b.lengths.t;
     assert_all_round(&[
         (t * one.a, "103.3"),
         (t * two.a, "100.2"),
         (one.g, "61.73"),
         (two.g, "54.41"),
-        (first.kf, "0.97"),
+        (one.kf, "0.97"),
         (t * one.j, "3663"),
         (t * two.j, "3618"),
         (one.ud, "1.064"),
-        (two.ud, "0.999"),
+        (ud2_by_002(&b, 0), "0.999"),
         (one.chi, "0.701"),
-        (two.chi, "0.75"),
+        (thickness_factor(ud2_by_002(&b, 0)), "0.75"),
     ]);
 }
 
@@ -107,15 +126,16 @@ fn stiffeners_before_refining() {
 fn stiffeners_refined() {
     let b = sheet_b();
     let [one, two] = b.rounds[1].stiffeners;
+    let chi2 = parts_by_002(&b).chi[1];
     assert_all_round(&[
         (one.be2, "36"),
         (two.be2, "32"),
         (one.c_eff, "19.8"),
         (two.c_eff, "19.8"),
         (one.chi, "0.693"),
-        (two.chi, "0.749"),
+        (chi2, "0.749"),
         (one.chi, "0.69"),
-        (two.chi, "0.75"),
+        (chi2, "0.75"),
     ]);
 }
 
@@ -125,7 +145,7 @@ fn area_and_axis() {
     assert_all_round(&[
         (b.lengths.t * b.gross.length, "732"),
         (b.gross.z, "96.88"),
-        (b.effective.z, "98.3"),
+        (parts_by_002(&b).axis().z, "98.3"),
     ]);
 }
 
@@ -137,7 +157,23 @@ fn area_and_axis_without_rounds() {
         rounds: 0,
         ..SHEET_B
     });
-    assert_all_round(&[(b.area, "434"), (b.effective.z, "98.8")]);
+    let axis = parts_by_002(&b).axis();
+    assert_all_round(&[(b.lengths.t * axis.length, "434"), (axis.z, "98.8")]);
+}
+
+/// What docs/WORKING.md, 17, says of the difference: the ratio of flange 2 is the inverse of
+/// 002's, as its areas 103.3 and 100.2 mm² have it, and takes χ2 and the area down.
+#[test]
+fn flange_2_by_its_own_ratio() {
+    let b = sheet_b();
+    let by_002 = parts_by_002(&b);
+    assert_all_round(&[
+        (b.rounds[0].stiffeners[1].kf, "1.03"),
+        (b.parts.chi[1], "0.741"),
+        (by_002.chi[1], "0.749"),
+        (b.area, "437.56"),
+        (b.lengths.t * by_002.axis().length, "438.39"),
+    ]);
 }
 
 /// With 002's own rounded parts, area and axis are as it prints them.

@@ -1,6 +1,8 @@
-//! Section 18 of docs/WORKING.md.
+//! Section 18 of docs/WORKING.md, and the certificate of README.md: both of sheet B.
 
+use reference::cases::certificate_of;
 use reference::named::SHEET_B;
+use reference::repository::certificate_shown;
 use reference::steps::fixed;
 use reference::worked_example::{worked_example, HEADING};
 use reference::working::worked;
@@ -9,12 +11,17 @@ use reference::working::worked;
 fn every_kept_pair_is_shown() {
     let section = worked_example();
     let named = worked(&SHEET_B).named();
-    assert_eq!(named.len(), 96);
+    assert_eq!(named.len(), 98);
     for (name, pair) in named {
         let [lower, upper] = [pair.lo, pair.hi].map(|end| fixed(end, pair.scale));
         let cells = format!("| {lower} | {upper} |");
         assert!(section.contains(&cells), "{name}: {cells}");
     }
+}
+
+#[test]
+fn readme_shows_the_certificate() {
+    assert_eq!(certificate_shown(), certificate_of(SHEET_B));
 }
 
 #[test]

@@ -11,7 +11,39 @@ fn passing_certificates() -> Vec<Case> {
         case("marked_09_a", certificate_of(SHEET_A), Passes),
         case("marked_10_b", certificate_of(SHEET_B), Passes),
         case("z_section", certificate_of(z_section()), Passes),
+        case("z_turned", certificate_of(z_turned()), Passes),
         case("shift_below_zero", certificate_of(b_turned()), Passes),
+    ]
+}
+
+/// Certificates as they were written while flange 2 had flange 1's ratio, before W-201: of equal
+/// flanges they pass, and sheet B's does not.
+fn older_certificates() -> Vec<Case> {
+    let wide_c = [
+        0, 45879, 17000, 17000, 4469, 267, 428, 425, 529, 1060, 1, 1000,
+    ];
+    let deep_z = [1, 47762, 3666, 3666, 1147, 63, 473, 210, 278, 1033, 3, 1];
+    let b = SHEET_B.numbers();
+    let older = |name, sheet, figures, meant| case(name, certificate_lines(sheet, figures), meant);
+    vec![
+        older(
+            "older_equal_c",
+            wide_c,
+            [165509, 825984, 465, 465, -1, 1],
+            Passes,
+        ),
+        older(
+            "older_equal_z",
+            deep_z,
+            [37234, 100204, 823, 823, -1, 1],
+            Passes,
+        ),
+        older(
+            "13_older_b",
+            b,
+            [43839, 153437, 693, 749, 142, 143],
+            refused(13, "area"),
+        ),
     ]
 }
 
@@ -101,22 +133,28 @@ fn wrong_certificates() -> Vec<Case> {
     cases
 }
 
-/// A certificate with one of its figures changed by so much.
-pub fn with_figure_moved(certificate: &str, key: &str, by: i64) -> String {
-    let moved = |line: &str| match line.split_once('=') {
-        Some((its, figure)) if its == key => {
-            let figure: i64 = figure.parse().expect("a figure");
-            format!("{key}={}\n", figure + by)
-        }
+/// A certificate with one of its figures spelt anew, from how it was.
+pub fn with_figure(certificate: &str, key: &str, spelt: impl Fn(&str) -> String) -> String {
+    let respelt = |line: &str| match line.split_once('=') {
+        Some((its, figure)) if its == key => format!("{key}={}\n", spelt(figure)),
         _ => format!("{line}\n"),
     };
-    certificate.lines().map(moved).collect()
+    certificate.lines().map(respelt).collect()
+}
+
+/// A certificate with one of its figures changed by so much.
+pub fn with_figure_moved(certificate: &str, key: &str, by: i64) -> String {
+    with_figure(certificate, key, |figure| {
+        let figure: i64 = figure.parse().expect("a figure");
+        (figure + by).to_string()
+    })
 }
 
 /// Texts that are to be checked.
 pub fn certificates() -> Vec<Case> {
     [
         passing_certificates(),
+        older_certificates(),
         misspelt_certificates(),
         wrong_certificates(),
     ]

@@ -4,7 +4,7 @@
 mod certificates;
 mod sheets;
 
-pub use certificates::{certificates, with_figure_moved};
+pub use certificates::{certificates, with_figure, with_figure_moved};
 pub use sheets::sheets;
 
 use crate::named::SHEET_B;
@@ -89,6 +89,11 @@ pub fn z_section() -> Sheet {
         SHEET_B,
         "form=1 b1=6700 b2=5900 c=2000 tnom=150 t=146 rounds=3",
     )
+}
+
+/// The Z purlin with its flanges exchanged.
+fn z_turned() -> Sheet {
+    with(z_section(), "b1=5900 b2=6700")
 }
 
 /// Sheet B with its flanges exchanged: the axis moves toward flange 1.

@@ -20,9 +20,6 @@ pub fn round(steps: &mut Steps, working: &Working, number: usize) {
     for i in 0..2 {
         stiffener(steps, i, &round.stiffeners[i], number == 0);
     }
-    steps.begin_titled("Both flanges");
-    let kf = "a of flange 2 ÷ a of flange 1";
-    steps.symbol(STIFFENER, "kf", kf).is(round.kf);
     for i in 0..2 {
         factor(steps, i, &round.stiffeners[i]);
     }
@@ -106,12 +103,14 @@ fn second_moment(steps: &mut Steps, worked: &Stiffener) {
     steps.symbol(STIFFENER, "J", j).is(worked.j);
 }
 
-/// D, ud and χ of one flange.
+/// kf, D, ud and χ of one flange.
 fn factor(steps: &mut Steps, i: usize, worked: &Stiffener) {
     let (owner, other) = (FLANGES[i], FLANGES[1 - i]);
     steps.begin_titled(format!("Factor of {owner}: o = g of {other}"));
     take(steps, &["g", "J", "T"], owner);
     steps.alias("o", &format!("g of {other}"));
+    let kf = format!("a of {other} ÷ a of {owner}");
+    steps.symbol(STIFFENER, "kf", &kf).is(worked.kf);
 
     for part in [
         "g×g",

@@ -71,7 +71,7 @@ impl Names {
         self.both(before.clone() + "g", round, |s| s.g);
         self.both(before.clone() + "J", round, |s| s.j);
         self.both(before.clone() + "T", round, |s| s.big_t);
-        self.add(before.clone() + "kf", round.kf);
+        self.both(before.clone() + "kf", round, |s| s.kf);
         self.both(before.clone() + "D", round, |s| s.d);
         self.both(before.clone() + "ud", round, |s| s.ud);
         self.both(before + "chi", round, |s| s.chi);

@@ -15,6 +15,7 @@ pub struct Stiffener {
     pub g: Pair,
     pub j: Pair,
     pub big_t: Pair,
+    pub kf: Pair,
     pub d: Pair,
     pub ud: Pair,
     pub chi: Pair,
@@ -23,7 +24,6 @@ pub struct Stiffener {
 /// Both flanges in one round; round 0 is the first working.
 #[derive(Clone, Copy, Debug)]
 pub struct Round {
-    pub kf: Pair,
     pub stiffeners: [Stiffener; 2],
 }
 
@@ -66,10 +66,12 @@ impl Widths {
         lengths.fyb * self.a / lengths.t / lengths.t.scale.whole(210)
     }
 
-    /// D, ud and χ, with o for the other flange's g.
-    fn stiffener(&self, lengths: &Lengths, o: Pair, kf: Pair) -> Stiffener {
-        let s = o.scale;
-        let (g, hp) = (self.g, lengths.hp);
+    /// kf, D, ud and χ: this is the flange under study, and kf is the other's a over
+    /// its own (W-201); o is the other's g.
+    fn stiffener(&self, lengths: &Lengths, other: &Widths) -> Stiffener {
+        let s = self.a.scale;
+        let (g, o, hp) = (self.g, other.g, lengths.hp);
+        let kf = other.a / self.a;
         let j = self.second_moment(lengths.t);
         let big_t = self.big_t(lengths);
         let d = g * g * hp + g * g * g + s.exact(1, 2) * g * o * hp * kf;
@@ -84,6 +86,7 @@ impl Widths {
             g,
             j,
             big_t,
+            kf,
             d,
             ud,
             chi: thickness_factor(ud),
@@ -99,12 +102,8 @@ impl Round {
             let lip = Plane::of(lip_u2[i], OUTSTAND);
             Widths::of(lengths, lengths.bp[i], flange, lip)
         });
-        let kf = widths[1].a / widths[0].a;
-        let stiffeners = [
-            widths[0].stiffener(lengths, widths[1].g, kf),
-            widths[1].stiffener(lengths, widths[0].g, kf),
-        ];
-        Round { kf, stiffeners }
+        let stiffeners = [0, 1].map(|i| widths[i].stiffener(lengths, &widths[1 - i]));
+        Round { stiffeners }
     }
 }
 

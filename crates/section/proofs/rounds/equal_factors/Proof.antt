@@ -1,5 +1,5 @@
 -- `section::rounds::equal_factors` meets its contract.
-use mathlib.Core.Path.{_≡_, ap, _∙_}
+use mathlib.Core.Path.{_≡_, sym, ap, _∙_}
 use Rattle.pair.specs.Pairs.{root}
 use Rattle.pair.specs.declared.Pair.{Pair}
 use Rattle.section.specs.Working.{S, g, kf, ud, χ, χ-of}
@@ -23,11 +23,11 @@ centre-requires : tie.Need-centre-requires
 centre-requires c κs = c .pre .one-g
 
 over-requires : tie.Need-over-requires
-over-requires c κs = c .before .pre .ratio
+over-requires c κs = c .before .pre .one-kf
 
 fourth-of-requires : tie.Need-fourth-of-requires
 unfolding kf
-fourth-of-requires c κs = rw (c .over .ensures, c .before .centre .ensures) (c .before .before .pre .one)
+fourth-of-requires c κs = rw (sym (c .over .ensures), sym (c .before .centre .ensures)) at (c .before .before .pre .one)
 
 -- the fourth power of ud
 module _ (c : tie.After-fourth-of) where

@@ -20,19 +20,27 @@ centre-requires-2 c κs = search needs
 over-requires : tie.Need-over-requires
 over-requires c κs = search needs
 
+over-requires-2 : tie.Need-over-requires-2
+over-requires-2 c κs = search needs
+
 fourth-of-requires : tie.Need-fourth-of-requires
 unfolding kf
-fourth-of-requires c κs = rw (c .over .ensures, c .before .centre2 .ensures, c .before .before .centre .ensures) (c .before .before .before .pre .one)
+fourth-of-requires c κs =
+    rw (c .before .over .ensures, c .before .before .centre2 .ensures, c .before .before .before .centre .ensures) (c .before .before .before .before .pre .one)
 
 fourth-of-requires-2 : tie.Need-fourth-of-requires-2
 unfolding kf
 fourth-of-requires-2 c κs =
-    rw (c .before .over .ensures, c .before .before .centre2 .ensures, c .before .before .before .centre .ensures) (c .before .before .before .before .pre .two)
+    let w = c .before in
+    rw (w .over2 .ensures, w .before .before .centre2 .ensures, w .before .before .before .centre .ensures) (w .before .before .before .before .pre .two)
 
--- kf, each flange's g, and the fourth power of its ud
+-- each flange's kf and g, and the fourth power of its ud
 module _ (c : tie.Start) where
-  abbrev k : Pair
-  k = kf (c .args .n) (c .args .one) (c .args .two)
+  abbrev k₁ : Pair
+  k₁ = kf (c .args .n) (c .args .one) (c .args .two)
+
+  abbrev k₂ : Pair
+  k₂ = kf (c .args .n) (c .args .two) (c .args .one)
 
   abbrev G₁ : Pair
   G₁ = g (c .args .n) (c .args .bp1) (c .args .one)
@@ -41,27 +49,37 @@ module _ (c : tie.Start) where
   G₂ = g (c .args .n) (c .args .bp2) (c .args .two)
 
   abbrev fourth₁ : Pair
-  fourth₁ = fourth-of (c .args .n) (c .args .y) k G₁ G₂ (c .args .one)
+  fourth₁ = fourth-of (c .args .n) (c .args .y) k₁ G₁ G₂ (c .args .one)
 
   abbrev fourth₂ : Pair
-  fourth₂ = fourth-of (c .args .n) (c .args .y) k G₂ G₁ (c .args .two)
+  fourth₂ = fourth-of (c .args .n) (c .args .y) k₂ G₂ G₁ (c .args .two)
 
 -- the fourth powers of both ud
 module _ (c : tie.After-fourth-of2) where
+  abbrev ratios : tie.After-over2
+  ratios = c .before .before
+
+  abbrev centres : tie.After-centre2
+  centres = ratios .before .before
+
   abbrev start : tie.Start
-  start = c .before .before .before .before .before
+  start = centres .before .before
 
   one-is : c .before .fourth-of .result ≡ fourth₁ start
   unfolding kf
   one-is =
       c .before .fourth-of .ensures
-      ∙ (λ i. fourth-of (start .args .n) (start .args .y) (c .before .before .over .ensures i) (c .before .before .before .before .centre .ensures i) (c .before .before .before .centre2 .ensures i) (start .args .one))
+      ∙ (λ i.
+      let g₁ = centres .before .centre .ensures i in
+      fourth-of (start .args .n) (start .args .y) (ratios .before .over .ensures i) g₁ (centres .centre2 .ensures i) (start .args .one))
 
   two-is : c .fourth-of2 .result ≡ fourth₂ start
   unfolding kf
   two-is =
       c .fourth-of2 .ensures
-      ∙ (λ i. fourth-of (start .args .n) (start .args .y) (c .before .before .over .ensures i) (c .before .before .before .centre2 .ensures i) (c .before .before .before .before .centre .ensures i) (start .args .two))
+      ∙ (λ i.
+      let g₁ = centres .before .centre .ensures i in
+      fourth-of (start .args .n) (start .args .y) (ratios .over2 .ensures i) (centres .centre2 .ensures i) g₁ (start .args .two))
 
 roots-requires : tie.Need-roots-requires
 roots-requires c κs = (rw (one-is c) (start c .pre .one .slender .inner), rw (two-is c) (start c .pre .two .slender .inner))
@@ -116,6 +134,7 @@ unequal-factors-spec =
     centre-requires
     centre-requires-2
     over-requires
+    over-requires-2
     fourth-of-requires
     fourth-of-requires-2
     roots-requires
