@@ -161,8 +161,9 @@ fn area_and_axis_without_rounds() {
     assert_all_round(&[(b.lengths.t * axis.length, "434"), (axis.z, "98.8")]);
 }
 
-/// What docs/WORKING.md, 17, says of the difference: the ratio of flange 2 is the inverse of
-/// 002's, as its areas 103.3 and 100.2 mm² have it, and takes χ2 and the area down.
+/// What docs/WORKING.md, 17, says of the difference. 1.03 is the inverse ratio of 002's areas
+/// 103.3 and 100.2 mm², 437.56 is W-201's, 0.749 is 002's; 0.741 and 438.39 are the reference's
+/// own, so that of them only the page is held here.
 #[test]
 fn flange_2_by_its_own_ratio() {
     let b = sheet_b();
