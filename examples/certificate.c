@@ -1,5 +1,5 @@
 /*
- * The three calls of include/honemagenta.h, from C. In the repository's folder:
+ * The calls of include/honemagenta.h, from C. In the repository's folder:
  *
  *   rt staticlib honemagenta
  *   cc -std=c99 -Iinclude examples/certificate.c target/staticlib/libhonemagenta.a -o certificate
@@ -14,19 +14,25 @@
 
 /* A sheet as text: twelve lines, each ended by a newline. Lengths are in 0.01 mm. With allow=0 the
  * area would have to be given without any rounding, which this one cannot. */
-static const char sheet[] =
-    "form=C\nh=20000\nb1=7400\nb2=6600\nc=2080\nr=300\ntnom=200\nt=196\nfyb=350\ngm0=1000\nrounds=1\nallow=0\n";
+#define UP_TO_ALLOW \
+    "form=C\nh=20000\nb1=7400\nb2=6600\nc=2080\nr=300\ntnom=200\nt=196\nfyb=350\ngm0=1000\nrounds=1\n"
+static const char sheet[] = UP_TO_ALLOW "allow=0\n";
 
-/* A call answers three numbers: refusal is 0, or the number of the question that is not met. */
-static void report(const char *what, hm_answer answer) {
+/* A catalogue: sheets joined end to end. */
+static const char catalogue[] = UP_TO_ALLOW "allow=0\n" UP_TO_ALLOW "allow=10\n";
+
+/* A call answers three numbers: refusal is 0, or the number of the question that is not met. Of a
+ * catalogue, line may be the place of a sheet. */
+static void say(const char *what, hm_answer answer) {
     const char *words = hm_refusal_words(answer.refusal);
+    const char *place = answer.refusal == HM_SHEET_MISSPELT ? "sheet" : "line";
     printf("%s: ", what);
     if (answer.refusal == HM_NOT_REFUSED)
         printf("in order, %llu bytes\n", (unsigned long long)answer.length);
     else if (answer.refusal == HM_BUFFER_TOO_SHORT)
         printf("%s, %llu bytes are needed\n", words, (unsigned long long)answer.length);
     else
-        printf("refused, question %llu, line %llu: %s\n", (unsigned long long)answer.refusal,
+        printf("refused, question %llu, %s %llu: %s\n", (unsigned long long)answer.refusal, place,
                (unsigned long long)answer.line, words);
 }
 
@@ -36,12 +42,30 @@ static hm_answer from_numbers(uint8_t *buffer, size_t room) {
                                        room);
 }
 
+/* The report on the first so many bytes of the catalogue. */
+static hm_answer report(size_t length, uint8_t *buffer, size_t room) {
+    return hm_catalogue_report((const uint8_t *)catalogue, length, buffer, room);
+}
+
+/* How many sheets are accepted and how many each question refuses, both sums, and a line for each
+ * accepted sheet. A catalogue that breaks off is not reported on. */
+static int report_on_catalogue(void) {
+    static uint8_t buffer[HM_REPORT_LONGEST];
+    hm_answer written = report(strlen(catalogue), buffer, sizeof buffer);
+    say("Report on a catalogue of two sheets", written);
+    if (written.refusal != HM_NOT_REFUSED)
+        return 1;
+    fwrite(buffer, 1, (size_t)written.length, stdout);
+    say("Report without the last byte", report(strlen(catalogue) - 1, buffer, sizeof buffer));
+    return 0;
+}
+
 int main(void) {
     /* The caller passes the buffer. So many bytes take every certificate. */
     uint8_t buffer[HM_CERTIFICATE_LONGEST];
 
     hm_answer written = from_numbers(buffer, sizeof buffer);
-    report("Certificate from twelve numbers", written);
+    say("Certificate from twelve numbers", written);
     if (written.refusal != HM_NOT_REFUSED)
         return 1;
 
@@ -49,17 +73,17 @@ int main(void) {
     fwrite(buffer, 1, (size_t)written.length, stdout);
 
     /* Whoever is handed the certificate can check it. */
-    report("Checked", hm_certificate_check(buffer, (size_t)written.length));
+    say("Checked", hm_certificate_check(buffer, (size_t)written.length));
 
     /* Its last digit changed, it is no longer the one that follows from its first twelve lines. */
     buffer[written.length - 2] ^= 1;
-    report("Checked with a digit changed", hm_certificate_check(buffer, (size_t)written.length));
+    say("Checked with a digit changed", hm_certificate_check(buffer, (size_t)written.length));
 
     /* From text. What is refused leaves the buffer as it was. */
-    report("Certificate of the sheet with allow=0",
-           hm_certificate_write((const uint8_t *)sheet, strlen(sheet), buffer, sizeof buffer));
+    say("Certificate of the sheet with allow=0",
+        hm_certificate_write((const uint8_t *)sheet, strlen(sheet), buffer, sizeof buffer));
 
     /* A buffer that is too short is not written to either, and the length needed is reported. */
-    report("Certificate in a buffer of 100 bytes", from_numbers(buffer, 100));
-    return 0;
+    say("Certificate in a buffer of 100 bytes", from_numbers(buffer, 100));
+    return report_on_catalogue();
 }

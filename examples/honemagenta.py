@@ -26,6 +26,10 @@ FORM_Z = 1
 # A buffer of so many bytes takes every certificate.
 CERTIFICATE_LONGEST = 273
 
+# A catalogue has at most so many sheets, and a buffer of so many bytes takes every report.
+SHEETS_MOST = 1000
+REPORT_LONGEST = 27088
+
 # A sheet's lines.
 KEYS = ("form", "h", "b1", "b2", "c", "r", "tnom", "t", "fyb", "gm0", "rounds", "allow")
 
@@ -45,6 +49,8 @@ REFUSALS = {
     11: "the area cannot be given as closely as allow asks",
     12: "the buffer is too short",
     13: "a figure is not the one worked from the first twelve lines",
+    14: "there are no sheets, or more than 1,000",
+    15: "a sheet of the catalogue is missing lines or misspelt",
 }
 
 
@@ -53,8 +59,8 @@ def refusal_words(number):
 
 
 class Refused(Exception):
-    """The number of the first question that is not met, the line concerned, at 12 the length needed (otherwise 0), and
-    what is wrong in words."""
+    """The number of the first question that is not met, the line concerned (at 15 the sheet's place), at 12 the length
+    needed (otherwise 0), and what is wrong in words."""
 
     def __init__(self, number, line, length, words):
         super().__init__(number, line, length, words)
@@ -66,7 +72,8 @@ class Refused(Exception):
     def __str__(self):
         if self.number == 12:
             return f"{self.words}, {self.length} bytes are needed"
-        return f"refused, question {self.number}, line {self.line}: {self.words}"
+        place = "sheet" if self.number == 15 else "line"
+        return f"refused, question {self.number}, {place} {self.line}: {self.words}"
 
 
 class Answer(ctypes.Structure):
@@ -83,18 +90,17 @@ class Honemagenta:
         self._write = library.hm_certificate_write
         self._check = library.hm_certificate_check
         self._from_numbers = library.hm_certificate_from_numbers
+        self._report = library.hm_catalogue_report
         self._write.argtypes = [c_char_p, c_size_t, c_char_p, c_size_t]
         self._check.argtypes = [c_char_p, c_size_t]
         self._from_numbers.argtypes = [c_uint64] * 12 + [c_char_p, c_size_t]
-        for call in (self._write, self._check, self._from_numbers):
+        self._report.argtypes = [c_char_p, c_size_t, c_char_p, c_size_t]
+        for call in (self._write, self._check, self._from_numbers, self._report):
             call.restype = Answer
 
     def write(self, sheet, room=CERTIFICATE_LONGEST):
         """The certificate of a sheet, both as bytes, written into a buffer of so many bytes."""
-        sheet = _text(sheet)
-        buffer = ctypes.create_string_buffer(room)
-        length = _length(self._write(sheet, len(sheet), buffer, room))
-        return buffer.raw[:length]
+        return _written(self._write, sheet, room)
 
     def from_numbers(self, form, h, b1, b2, c, r, tnom, t, fyb, gm0, rounds, allow, room=CERTIFICATE_LONGEST):
         """The same from the twelve numbers of a sheet, the form being FORM_C or FORM_Z."""
@@ -109,11 +115,23 @@ class Honemagenta:
         certificate = _text(certificate)
         return _length(self._check(certificate, len(certificate)))
 
+    def report(self, catalogue, room=REPORT_LONGEST):
+        """The report on a catalogue, sheets joined end to end, both as bytes, written into a buffer of so many bytes."""
+        return _written(self._report, catalogue, room)
+
 
 def _text(text):
     if not isinstance(text, (bytes, bytearray, memoryview)):
         raise TypeError(f"bytes are wanted, not {type(text).__name__}")
     return bytes(text)
+
+
+def _written(call, text, room):
+    """What a call on a text writes into a buffer of so many bytes."""
+    text = _text(text)
+    buffer = ctypes.create_string_buffer(room)
+    length = _length(call(text, len(text), buffer, room))
+    return buffer.raw[:length]
 
 
 def _refuse_wide(numbers):
@@ -132,7 +150,7 @@ def _length(answer):
 def _demonstrate(path):
     library = Honemagenta(path)
 
-    def report(what, call, *arguments, **named):
+    def said(what, call, *arguments, **named):
         """What came of a call: what it returned, or the refusal."""
         try:
             result = call(*arguments, **named)
@@ -144,24 +162,31 @@ def _demonstrate(path):
 
     # Lengths are in 0.01 mm. The last number, allow, says that the area may be off by 0.1 mm².
     numbers = [FORM_C, 20000, 7400, 6600, 2080, 300, 200, 196, 350, 1000, 1, 10]
-    certificate = report("Certificate from twelve numbers", library.from_numbers, *numbers)
+    certificate = said("Certificate from twelve numbers", library.from_numbers, *numbers)
     print(certificate.decode("ascii"), end="")
 
     # Whoever is handed the certificate can check it. With a digit changed it is no longer the one that follows from its
     # first twelve lines.
-    report("Checked", library.check, certificate)
+    said("Checked", library.check, certificate)
     changed = bytearray(certificate)
     changed[-2] ^= 1
-    report("Checked with a digit changed", library.check, changed)
+    said("Checked with a digit changed", library.check, changed)
 
     # From text, twelve lines, each ended by a newline. With allow=0 the area would have to be given without any rounding,
     # which this one cannot.
     values = ["C"] + numbers[1:11] + [0]
     sheet = "".join(f"{key}={value}\n" for key, value in zip(KEYS, values))
-    report("Certificate of the sheet with allow=0", library.write, sheet.encode("ascii"))
+    said("Certificate of the sheet with allow=0", library.write, sheet.encode("ascii"))
 
     # A buffer that is too short is not written to, and the length needed is reported.
-    report("Certificate in a buffer of 100 bytes", library.from_numbers, *numbers, room=100)
+    said("Certificate in a buffer of 100 bytes", library.from_numbers, *numbers, room=100)
+
+    # A catalogue is sheets joined end to end. Its report says how many are accepted and how many each question refuses,
+    # both sums, and a line for each accepted sheet. A catalogue that breaks off is not reported on.
+    catalogue = (sheet + sheet.replace("allow=0", "allow=10")).encode("ascii")
+    report = said("Report on a catalogue of two sheets", library.report, catalogue)
+    print(report.decode("ascii"), end="")
+    said("Report without the last byte", library.report, catalogue[:-1])
 
 
 if __name__ == "__main__":

@@ -1,26 +1,27 @@
 /*
- * Certificates of lipped C and Z sections: the calls of libhonemagenta.a, which
- * `rt staticlib honemagenta` writes to target/staticlib/.
+ * Certificates of lipped C and Z sections, and reports on catalogues of them: the
+ * calls of libhonemagenta.a, which `rt staticlib honemagenta` writes to
+ * target/staticlib/.
  *
  * What a caller owes. Nothing checks a caller in C:
  *  - A pointer is not null, also where its length is 0, and points to as many
- *    bytes as the length says. Those of a sheet or a certificate may be read,
+ *    bytes as the length says. Those of sheets or a certificate may be read,
  *    and are not written by anyone else during the call; those of a buffer may
  *    be read and written, and are used by no one else during the call.
- *  - A buffer does not overlap the sheet.
+ *  - A buffer does not overlap the sheets.
  * Every length and every content is allowed. The calls keep nothing between
  * them, allocate nothing and may run in several threads at a time.
  *
- * What is answered. `refusal` is 0 where a certificate is written or passes;
- * `line` is then 0, and `length` counts the certificate's bytes. A certificate
- * is text and is not ended by a zero byte. Otherwise `refusal` is the number of
+ * What is answered. `refusal` is 0 where a certificate or a report is written or
+ * a certificate passes; `line` is then 0, and `length` counts the bytes of that
+ * text, which is not ended by a zero byte. Otherwise `refusal` is the number of
  * the first question that is not met (enum hm_refusal), and `line` the line
- * concerned, 1 for the first. `length` is 0 at every refusal but 12, where it is
- * the length needed. A refusal leaves every byte of the buffer as it was; bytes
- * behind a certificate are kept too.
+ * concerned, at 15 the sheet's place in its catalogue, 1 for the first. `length`
+ * is 0 at every refusal but 12, where it is the length needed. A refusal leaves
+ * every byte of the buffer as it was; bytes behind what is written are kept too.
  *
- * README.md says what the lines of a sheet and of a certificate are, and what to
- * do about a refusal.
+ * README.md says what the lines of a sheet, a certificate and a report are, and
+ * what to do about a refusal.
  */
 #ifndef HONEMAGENTA_H
 #define HONEMAGENTA_H
@@ -30,6 +31,10 @@
 
 /* A buffer of so many bytes takes every certificate. */
 #define HM_CERTIFICATE_LONGEST 273
+
+/* A catalogue has at most so many sheets, and a buffer of so many bytes takes every report. */
+#define HM_SHEETS_MOST 1000
+#define HM_REPORT_LONGEST 27088
 
 /* The two forms, as numbers. */
 #define HM_FORM_C 0
@@ -60,7 +65,9 @@ enum hm_refusal {
     HM_LIPS_OVERLAP = 10,         /* 5, c */
     HM_ALLOWANCE_EXCEEDED = 11,   /* 12, allow */
     HM_BUFFER_TOO_SHORT = 12,     /* 0; length is the length needed */
-    HM_WRONG_FIGURE = 13          /* 13 to 18, the first such figure; only when checking */
+    HM_WRONG_FIGURE = 13,         /* 13 to 18, the first such figure; only when checking */
+    HM_WRONG_SHEET_COUNT = 14,    /* 0; only of a catalogue */
+    HM_SHEET_MISSPELT = 15        /* 1 to 1000, the place of the first such sheet; only of a catalogue */
 };
 
 /* What is wrong, in the words of README.md's table. */
@@ -80,6 +87,8 @@ static inline const char *hm_refusal_words(uint64_t refusal) {
     case HM_ALLOWANCE_EXCEEDED: return "the area cannot be given as closely as allow asks";
     case HM_BUFFER_TOO_SHORT: return "the buffer is too short";
     case HM_WRONG_FIGURE: return "a figure is not the one worked from the first twelve lines";
+    case HM_WRONG_SHEET_COUNT: return "there are no sheets, or more than 1,000";
+    case HM_SHEET_MISSPELT: return "a sheet of the catalogue is missing lines or misspelt";
     default: return "no such refusal";
     }
 }
@@ -94,6 +103,15 @@ hm_answer hm_certificate_check(const uint8_t *certificate, size_t certificate_le
 hm_answer hm_certificate_from_numbers(uint64_t form, uint64_t h, uint64_t b1, uint64_t b2, uint64_t c, uint64_t r,
                                       uint64_t tnom, uint64_t t, uint64_t fyb, uint64_t gm0, uint64_t rounds,
                                       uint64_t allow, uint8_t *buffer, size_t buffer_len);
+
+/*
+ * Writes the report on a catalogue, 1 to 1,000 sheets joined end to end, to the start of the buffer. Each run of
+ * twelve lines is one sheet, and a shorter rest one that is cut short. One number to a line, the report has the
+ * number of sheets, of those accepted, of those under each refusal from 2 to 11, the sum of the accepted ones' areas
+ * and that of their axial resistances; then a line for each accepted sheet, in the catalogue's order: its place from
+ * 1, its area and its axial resistance, one blank between.
+ */
+hm_answer hm_catalogue_report(const uint8_t *sheets, size_t sheets_len, uint8_t *buffer, size_t buffer_len);
 
 #ifdef __cplusplus
 }

@@ -2,7 +2,17 @@
 import pickle
 import sys
 
-from honemagenta import CERTIFICATE_LONGEST, FORM_C, FORM_Z, KEYS, Honemagenta, Refused, refusal_words
+from honemagenta import (
+    CERTIFICATE_LONGEST,
+    FORM_C,
+    FORM_Z,
+    KEYS,
+    REPORT_LONGEST,
+    SHEETS_MOST,
+    Honemagenta,
+    Refused,
+    refusal_words,
+)
 
 SHEET_B = (FORM_C, 20000, 7400, 6600, 2080, 300, 200, 196, 350, 1000, 1, 10)
 ALLOW = KEYS.index("allow")
@@ -29,13 +39,13 @@ def refuses(number, line, length, call, *arguments, **named):
     assert str(again) == str(refused), again
 
 
-def main(path):
-    library = Honemagenta(path)
-    with open("examples/sheet_b.txt", "rb") as file:
-        sheet = file.read()
+def contents(path):
+    with open(path, "rb") as file:
+        return file.read()
 
-    with open("crates/certificate_cases/data/certificates/marked_10_b", "rb") as file:
-        expected = file.read()
+
+def certificates(library, sheet):
+    expected = contents("crates/certificate_cases/data/certificates/marked_10_b")
 
     # Text and numbers give the certificate that the reference has made, and it passes.
     certificate = library.write(sheet)
@@ -69,10 +79,39 @@ def main(path):
             error = raised(ValueError, library.from_numbers, *with_number(place, number))
             assert str(error).startswith(f"{key}: {number!r} "), error
     raised(TypeError, library.from_numbers, *SHEET_B[:-1])
-    for text in (sheet.decode("ascii"), None, 160, [1, 2]):
-        raised(TypeError, library.write, text)
-        raised(TypeError, library.check, text)
     assert len(certificate) <= CERTIFICATE_LONGEST
+
+
+def reports(library, sheet):
+    catalogue = contents("examples/catalogue.txt")
+
+    # The report is the reference's, and its lines are those of the certificates.
+    report = library.report(catalogue)
+    assert report == contents("examples/catalogue_report.txt"), report
+    assert library.report(memoryview(catalogue)) == library.report(bytearray(catalogue)) == report
+    full = library.report(sheet * SHEETS_MOST)
+    certificate = dict(line.split(b"=") for line in library.write(sheet).splitlines())
+    figures = b"%d %s %s" % (SHEETS_MOST, certificate[b"area"], certificate[b"axial"])
+    assert full.splitlines()[-1] == figures and len(full) <= REPORT_LONGEST, full
+
+    # Refusals, with their words.
+    refuses(14, 0, 0, library.report, b"")
+    refuses(14, 0, 0, library.report, sheet * SHEETS_MOST + b"\n")
+    refuses(15, 1, 0, library.report, b"\n")
+    refuses(15, 3, 0, library.report, sheet + sheet + sheet[:-1], room=0)
+    for room in (0, 20, len(report) - 1):
+        refuses(12, 0, len(report), library.report, catalogue, room=room)
+    assert library.report(catalogue, room=len(report)) == report
+
+
+def main(path):
+    library = Honemagenta(path)
+    sheet = contents("examples/sheet_b.txt")
+    certificates(library, sheet)
+    reports(library, sheet)
+    for text in (sheet.decode("ascii"), None, 160, [1, 2]):
+        for call in (library.write, library.check, library.report):
+            raised(TypeError, call, text)
 
 
 main(sys.argv[1])

@@ -1,5 +1,6 @@
-// The lines of a sheet, and the three calls in each version that is measured.
+// The lines of a sheet, and the four calls in each version that is measured.
 // (Document 01, "Sheet and certificate".)
+#pragma once
 #include "honemagenta.h"
 
 // Key, place, least and greatest value of each line, in order. Only here do they stand one by one.
@@ -20,6 +21,7 @@
 #define PLACE(key, place, least, most) place,
 #define RANGE(key, place, least, most) {least, most},
 #define PARAMETER(key, place, least, most) uint64_t key,
+#define SHEET_KEY(key, place, least, most) #key "=",
 
 enum { SHEET(PLACE) SHEET_LINES };
 
@@ -29,3 +31,5 @@ typedef hm_answer Answer;
 typedef Answer Write(const uint8_t *sheet, size_t sheet_length, uint8_t *buffer, size_t room);
 typedef Answer Check(const uint8_t *certificate, size_t length);
 typedef Answer FromNumbers(SHEET(PARAMETER) uint8_t *buffer, size_t room);
+// Of sheets joined end to end.
+typedef Write Report;

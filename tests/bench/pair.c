@@ -54,8 +54,6 @@ static void fill(Ends *p, double least, double most) {
 // ---- timing
 
 static u64 scale = 1000000;
-// Takes a sum of the results, so that the compiler leaves no operation out.
-static volatile u64 sink;
 
 // The best of some tries, in ns for one operation. `wait` is what the next operand takes from the
 // result before: its highest bit, which is 0 in this run, and the compiler does not know it.

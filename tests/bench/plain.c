@@ -265,7 +265,6 @@ static Answer judged(const Sheet *sheet, Figures *f) {
 
 // ---- text
 
-#define SHEET_KEY(key, place, least, most) #key "=",
 #define FIGURE_KEY(key, type) #key "=",
 static const char *const KEYS[LINES] = {SHEET(SHEET_KEY) FIGURES(FIGURE_KEY)};
 
@@ -274,7 +273,7 @@ static char *put_text(char *at, const char *text) {
     return at;
 }
 
-static char *put_number(char *at, u64 n) {
+static inline char *put_number(char *at, u64 n) {
     char digits[20];
     int count = 0;
     do {
@@ -283,6 +282,14 @@ static char *put_number(char *at, u64 n) {
     } while (n);
     while (count) *at++ = digits[--count];
     return at;
+}
+
+// Question 12: the text goes to the buffer if that has room for it.
+static inline Answer lent(const char *text, const char *end, uint8_t *buffer, size_t room) {
+    size_t length = (size_t)(end - text);
+    if (length > room) return (Answer){12, 0, length};
+    memcpy(buffer, text, length);
+    return in_order(length);
 }
 
 static Answer put(const Sheet *sheet, const Figures *f, uint8_t *buffer, size_t room) {
@@ -298,14 +305,11 @@ static Answer put(const Sheet *sheet, const Figures *f, uint8_t *buffer, size_t 
         }
         *at++ = '\n';
     }
-    size_t length = (size_t)(at - text);
-    if (length > room) return (Answer){12, 0, length};
-    memcpy(buffer, text, length);
-    return in_order(length);
+    return lent(text, at, buffer, room);
 }
 
 // The number of line i at *at, which moves behind its newline; 0 where the line is bad.
-static int read_line(const uint8_t **at, const uint8_t *end, int i, i64 *value) {
+static inline int read_line(const uint8_t **at, const uint8_t *end, int i, i64 *value) {
     const uint8_t *p = *at;
     for (const char *key = KEYS[i]; *key; key++)
         if (p == end || *p++ != (uint8_t)*key) return 0;
@@ -326,12 +330,18 @@ static int read_line(const uint8_t **at, const uint8_t *end, int i, i64 *value) 
     return 1;
 }
 
+// The first lines at *at, which moves behind them: 0, or the first bad line.
+static inline u64 read_first(const uint8_t **at, const uint8_t *end, int count, i64 values[]) {
+    for (int i = 0; i < count; i++)
+        if (!read_line(at, end, i, &values[i])) return (u64)i + 1;
+    return 0;
+}
+
 // Question 1: 0, or the first bad line.
 static u64 read_lines(const uint8_t *text, size_t length, int count, i64 values[]) {
     const uint8_t *at = text, *end = text + length;
-    for (int i = 0; i < count; i++)
-        if (!read_line(&at, end, i, &values[i])) return (u64)i + 1;
-    return at == end ? 0 : (u64)count + 1;
+    u64 bad = read_first(&at, end, count, values);
+    return bad || at == end ? bad : (u64)count + 1;
 }
 
 static Sheet sheet_of(const i64 values[]) {
@@ -373,4 +383,67 @@ Answer plain_from_numbers(SHEET(PARAMETER) uint8_t *buffer, size_t room) {
 #define NAMED(key, place, least, most) key,
     Sheet sheet = {SHEET(NAMED)};
     return certify(&sheet, buffer, room);
+}
+
+// ---- the report on a catalogue (request W-202)
+
+typedef struct { u64 place, area, axial; } Row;
+
+// How many sheets there are under each refusal, 0 for the accepted ones, of which each has a row.
+typedef struct {
+    u64 sheets, under[12], area, axial;
+    Row *rows;
+} Tally;
+
+// How many lines; what stands behind the last newline is one too.
+static size_t lines_of(const uint8_t *text, size_t length) {
+    size_t count = length && text[length - 1] != '\n';
+    for (size_t i = 0; i < length; i++) count += text[i] == '\n';
+    return count;
+}
+
+static void enter(Tally *t, u64 place, const Sheet *sheet) {
+    Figures f;
+    u64 refusal = judged(sheet, &f).refusal;
+    if (refusal == 0) {
+        t->rows[t->under[0]] = (Row){place, f.area, f.axial};
+        t->area += f.area;
+        t->axial += f.axial;
+    }
+    t->under[refusal]++;
+}
+
+static inline char *put_ended(char *at, u64 n, char end) {
+    at = put_number(at, n);
+    *at++ = end;
+    return at;
+}
+
+static Answer put_report(const Tally *t, uint8_t *buffer, size_t room) {
+    char text[HM_REPORT_LONGEST], *at = text;
+    at = put_ended(at, t->sheets, '\n');
+    at = put_ended(at, t->under[0], '\n');
+    for (int question = 2; question <= 11; question++) at = put_ended(at, t->under[question], '\n');
+    at = put_ended(at, t->area, '\n');
+    at = put_ended(at, t->axial, '\n');
+    for (const Row *row = t->rows; row != t->rows + t->under[0]; row++) {
+        at = put_ended(at, row->place, ' ');
+        at = put_ended(at, row->area, ' ');
+        at = put_ended(at, row->axial, '\n');
+    }
+    return lent(text, at, buffer, room);
+}
+
+Answer plain_report(const uint8_t *text, size_t length, uint8_t *buffer, size_t room) {
+    Row rows[HM_SHEETS_MOST];
+    Tally t = {.sheets = (lines_of(text, length) + SHEET_LINES - 1) / SHEET_LINES, .rows = rows};
+    if (t.sheets == 0 || t.sheets > HM_SHEETS_MOST) return refused(14, 0);
+    const uint8_t *at = text, *end = text + length;
+    for (u64 place = 1; place <= t.sheets; place++) {
+        i64 values[SHEET_LINES];
+        if (read_first(&at, end, SHEET_LINES, values)) return refused(15, place);
+        Sheet sheet = sheet_of(values);
+        enter(&t, place, &sheet);
+    }
+    return put_report(&t, buffer, room);
 }

@@ -1,4 +1,5 @@
 // Time and chance for the benchmarks.
+#pragma once
 #include <stdint.h>
 #include <stdlib.h>
 #include <time.h>
@@ -21,3 +22,6 @@ static inline u64 draw(void) {
     state ^= state << 17;
     return state;
 }
+
+// Takes a sum of the results, so that the compiler leaves nothing out.
+static volatile u64 sink;

@@ -25,12 +25,12 @@ use Rattle.certificate.specs.Outcome.{checking, outcomeOf, checked}
 use Rattle.questions.specs.Outcomes.{refused, written, writtenIfMet, answerOf}
 use Rattle.certificate.specs.Outcome.{checkOutcome}
 use Rattle.certificate.specs.Promises.{lines13, lines-of-checking, Misspelt, Unlike, Issued}
-use Rattle.questions.proofs.Laws.{met-when-so, found-with-reason}
+use Rattle.questions.proofs.Laws.{met-when-so, found-with-reason, found-answered, met-not-refused}
 use Rattle.certificate.proofs.Ties.{checking-told, figures-agree}
 use Rattle.certificate.proofs.Theorems.{so-of-both, so-is-allowed}
 use Rattle.certificate.proofs.Shown.{sheet-back, behind-sheet, split-at-sheet, sheet-spelt, certificate-text}
 use Rattle.certificate.proofs.OutcomeSteps.{bad-certificate, right-certificate}
-use Rattle.certificate.proofs.Answered.{met-not-refused, found-answered, misspelt-refuses}
+use Rattle.certificate.proofs.Answered.{misspelt-refuses}
 use Rattle.certificate.proofs.Written.{numbers-written, claims-are, numbers-as-text, sheet-written}
 
 -- A certificate's bytes.
@@ -45,7 +45,7 @@ module _ (c : List ℕ) where
   checked-with-reason vs g a =
       let q = sheetShown vs in
       let n = lines-count vs g in
-      let e = found-answered (checked c) c a in
+      let e = found-answered refusalAnswer (checked c) c a in
       let r = found-with-reason refusalAnswer 0 2 (checking vs q) (lines-of-checking vs q) (checking-told vs q n) a in
       let same = right-certificate c vs g in (
         λ h. r .0 (subst (λ (f : Finding Refusal). Found-as refusalAnswer f a) same (e .0 h .0)),

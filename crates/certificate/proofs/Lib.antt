@@ -10,6 +10,7 @@ pub mod Answered
 pub mod Written
 pub mod Checked
 pub mod Rooms
+pub mod Certified
 pub mod FinerWorkings
 pub mod Promises
 pub mod Marked

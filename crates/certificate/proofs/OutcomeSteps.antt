@@ -1,9 +1,8 @@
 -- The steps of the code that writes and checks, each with what it gives.
-use Prim.Native.Nat.{ℕ, _+_, _≤_, _<_}
+use Prim.Native.Nat.{ℕ, _+_, _≤_}
 use mathlib.Core.List.{List, [], _∷_, _++_}
 use mathlib.Core.Path.{_≡_, refl, sym, ap, _∙_, subst}
 use native.Mathlib.Omega.{arith}
-use borrow.Author.Tests.{le-leb, lt-leb}
 use lib.IntN.{ℤ}
 use lib.ListN.{length, take, drop}
 use lib.Seq.{take-all}
@@ -14,7 +13,6 @@ use Rattle.questions.specs.Claims.{_is_, pairwise}
 use Rattle.section.specs.Figures.{Printed, own-figures}
 use Rattle.section.specs.Forms.{figuresOf}
 use Rattle.section.specs.Sheets.{sheetLines}
-use Rattle.questions.specs.Buffers.{over}
 use Rattle.lines.specs.Texts.{linesText, longest}
 use Rattle.lines.specs.Reading.{Reading, values, badLine, readLines}
 use Rattle.lines.specs.Forms.{integers}
@@ -33,7 +31,7 @@ use Rattle.questions.specs.Asking.{askedFrom, Finding, refusal, met, firstOf, f
 use Rattle.certificate.specs.Questions.{questions, foundOf, Judged, rejected, accepted, judged, verdict, verdictOf}
 use Rattle.certificate.specs.Certificates.{sheetValues, figureValues, certificateValues, certificateOf, sheetShown, readSheet, sheetIn, agreeing}
 use Rattle.certificate.specs.Outcome.{question12, question13, writing, checking, outcomeOf, outcomeRead, outcome, checkedRead, checked}
-use Rattle.questions.specs.Outcomes.{Outcome, refused, written, writtenIfMet, fitting, fitted, answerOf, bufferAfter}
+use Rattle.questions.specs.Outcomes.{refused, writtenIfMet, fitting, fitted, answerOf}
 use Rattle.certificate.specs.Outcome.{checkOutcome}
 use Rattle.questions.proofs.Laws.{in-turn, then-nothing}
 use Rattle.certificate.proofs.Theorems.{judged-refused, judged-accepted, accepted-is-met}
@@ -140,27 +138,7 @@ module _ (q : Sheet) where
       let h = questions-met e in
       rw (in-turn (questions q) ([] ∷ question13 vs q ∷ []), h .0, then-nothing (firstOf (question13 vs q)), h .1)
 
--- the twelfth question
-module _ (room : ℕ) (t : List ℕ) where
-  pub fits : length t ≤ room → fitted Room room t ≡ written t
-  unfolding fitted fitting firstOf writtenIfMet
-  fits h = rw (le-leb (length t) room h)
-
-  pub too-long : room < length t → fitted Room room t ≡ refused (Room (length t))
-  unfolding fitted fitting firstOf writtenIfMet
-  too-long h = rw (lt-leb (length t) room h)
-
--- what is answered, and left in the buffer
-module _ (o : Outcome Refusal) (a : Answer) (b : List ℕ) where
-  pub answers-refusal : (r : Refusal) → o ≡ refused r → a ≡ refusalAnswer r → (a ≡ answerOf refusalAnswer o) × (b ≡ bufferAfter o b)
-  unfolding answerOf bufferAfter
-  answers-refusal r e h = (h ∙ sym (ap (answerOf refusalAnswer) e), sym (ap (λ (x : Outcome Refusal). bufferAfter x b) e))
-
-  pub answers-text : (t d : List ℕ) (n : ℕ) → o ≡ written t → n ≡ length t → a ≡ answer 0 0 n → d ≡ over t b → (a ≡ answerOf refusalAnswer o) × (d ≡ bufferAfter o b)
-  unfolding answerOf bufferAfter
-  answers-text t d n e k h w = (h ∙ ap (answer 0 0) k ∙ sym (ap (answerOf refusalAnswer) e), w ∙ sym (ap (λ (x : Outcome Refusal). bufferAfter x b) e))
-
--- and to a check
+-- what is answered to a check
 module _ (c : List ℕ) (a : Answer) where
   pub answers-unlike : (r : Refusal) → checked c ≡ refusal r → a ≡ refusalAnswer r → a ≡ answerOf refusalAnswer (checkOutcome c)
   unfolding checkOutcome writtenIfMet answerOf

@@ -21,12 +21,12 @@ use Rattle.certificate.specs.Certificates.{sheetValues, certificateOf, s
 use Rattle.certificate.specs.Outcome.{writing, outcomeOf, outcome}
 use Rattle.questions.specs.Outcomes.{refused, written, answerOf}
 use Rattle.certificate.specs.Promises.{Question1, lines12, lines-of-writing, Written, Misspelt, NumbersUnmet, SheetUnmet}
-use Rattle.questions.proofs.Laws.{met-when-so, found-with-reason}
+use Rattle.questions.proofs.Laws.{met-when-so, found-with-reason, found-answered, if-met-written, written-not-refused}
 use Rattle.certificate.proofs.Ties.{writing-told}
 use Rattle.certificate.proofs.Theorems.{so-of-both}
 use Rattle.certificate.proofs.Shown.{sheet-alone, values-back}
 use Rattle.certificate.proofs.OutcomeSteps.{bad-sheet, right-sheet}
-use Rattle.certificate.proofs.Answered.{written-not-refused, if-met-written, found-answered, misspelt-refuses}
+use Rattle.certificate.proofs.Answered.{misspelt-refuses}
 
 -- Twelve numbers.
 module _ (q : Sheet) (room : ℕ) where
@@ -42,7 +42,7 @@ module _ (q : Sheet) (room : ℕ) where
   pub numbers-refused : (a : Answer) → Refuses (answerOf refusalAnswer (outcomeOf q room)) a ↔ NumbersUnmet q room a
   unfolding outcomeOf
   numbers-refused a =
-      let e = found-answered (firstIn (writing room q)) (certificateOf q) a in
+      let e = found-answered refusalAnswer (firstIn (writing room q)) (certificateOf q) a in
       let r = found-with-reason refusalAnswer _ 2 (writing room q) (lines-of-writing room q) (writing-told q room) a in
       (λ h. r .0 (e .0 h .0), λ h. e .1 (r .1 h, omega (arith, h .numbered)))
 
@@ -62,7 +62,7 @@ module _ (q : Sheet) (room : ℕ) where
 -- A sheet's bytes.
 module _ (s : List ℕ) where
   -- what is read shows a sheet, and a sheet's text is read
-  shows : (vs : List ℤ) → readLines sheetFields s ≡ values vs → Question1 s (sheetShown vs)
+  pub shows : (vs : List ℤ) → readLines sheetFields s ≡ values vs → Question1 s (sheetShown vs)
   unfolding sheetFields
   shows vs e =
       let t = reads-values sheetFields s vs .0 e in

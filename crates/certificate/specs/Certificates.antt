@@ -54,6 +54,14 @@ figuresShown vs =
       shifthi = behind vs 6;
     }
 
+-- the figures that a certificate's bytes show, none where they are not its lines
+unfoldable pub figuresRead : Reading → Printed
+figuresRead (values vs) = figuresShown vs
+figuresRead (badLine l) = figuresShown []
+
+unfoldable pub figuresIn : List ℕ → Printed
+figuresIn c = figuresRead (readLines certificateFields c)
+
 -- the lines behind the sheet's, with the values vs, are those of the working
 unfoldable pub agreeing : List ℤ → Sheet → List Claim
 agreeing vs q = pairwise _is_ (drop sheetLines vs) (figureValues (own-figures q))

@@ -1,4 +1,5 @@
 // The calls for programs in other languages; include/honemagenta.h declares them.
+use catalogue::reports;
 use certificate::certificates;
 use questions::Answer;
 ghost use mathlib.Core.Path.{_≡_};
@@ -7,6 +8,8 @@ ghost use Rattle.section.specs.Sheets.{sheetOf};
 ghost use Rattle.certificate.specs.Outcome.{outcomeOf, outcome, checkOutcome};
 ghost use Rattle.questions.specs.Outcomes.{answerOf, answerIn, bufferIn};
 ghost use Rattle.certificate.specs.Refusals.{refusalAnswer};
+ghost use Rattle.catalogue.specs.Outcome.{reportOutcome};
+ghost use Rattle.catalogue.specs.Refusals.{reportAnswer};
 
 #[no_mangle]
 pub extern "C" fn hm_certificate_write(sheet: &[u8], buffer: &mut [u8]) -> Answer
@@ -49,4 +52,13 @@ pub extern "C" fn hm_certificate_from_numbers(
 {
     let numbers = [form, h, b1, b2, c, r, tnom, t, fyb, gm0, rounds, allow];
     certificates::from_numbers(numbers, buffer)
+}
+
+// A report on sheets joined end to end.
+#[no_mangle]
+pub extern "C" fn hm_catalogue_report(sheets: &[u8], buffer: &mut [u8]) -> Answer
+    ensures { λ a. ⌜ a ≡ answerIn reportAnswer (reportOutcome (now (sheets .entry))) (now (buffer .entry)) ⌝ }
+    ensures { λ _. ⌜ now (buffer .exit) ≡ bufferIn (reportOutcome (now (sheets .entry))) (now (buffer .entry)) ⌝ }
+{
+    reports::report(sheets, buffer)
 }

@@ -6,7 +6,7 @@ use native.Mathlib.Omega.{arith}
 use native.Mathlib.Numerals.{add-one}
 use borrow.Rule.Slice.PartMut.{putMid}
 use lib.ListN.{length, take, drop, set, length-append, length-drop, length-take, drop-of-length-le}
-use lib.Seq.{take-all, take-length, take-append-seam, drop-append-seam, set-append-seam, drop-drop, drop-cons}
+use lib.Seq.{take-all, take-length, take-append-seam, drop-append-seam, drop-append-add, set-append-seam, drop-drop, drop-cons, sets, sets-eq}
 use Rattle.questions.specs.Buffers.{over}
 
 pub length-snoc : (t : List ℕ) (x : ℕ) → length (t ++ (x ∷ [])) ≡ length t + 1
@@ -21,6 +21,11 @@ pub over-nothing : (b : List ℕ) → b ≡ over [] b
 unfolding over
 over-nothing b = refl
 
+-- the text stands in front
+pub over-front : (t b : List ℕ) → take (length t) (over t b) ≡ t
+unfolding over
+over-front t b = take-append-seam t (drop (length t) b)
+
 -- one byte
 pub over-first : (x : ℕ) (b : List ℕ) → 0 < length b → set b 0 x ≡ over (x ∷ []) b
 unfolding over
@@ -33,6 +38,16 @@ unfolding over
 over-set t b x h =
     rw (drop-cons b (length t) 0 h)
     (set-append-seam t _ _ x ∙ sym (append-assoc t (x ∷ []) _ ∙ ap (λ (k : ℕ). t ++ (x ∷ drop k b)) (length-snoc t x ∙ add-one (length t))))
+
+-- several more
+pub over-sets : (t b xs : List ℕ) → length t + length xs ≤ length b → sets (over t b) (length t) xs ≡ over (t ++ xs) b
+unfolding over
+over-sets t b xs h =
+    let n = length t in
+    sets-eq xs (over t b) n (omega (arith, length-over t b (omega arith)))
+    ∙ ap (λ (l : List ℕ). (l ++ xs) ++ drop (n + length xs) (over t b)) (take-append-seam t (drop n b))
+    ∙ ap (λ (l : List ℕ). (t ++ xs) ++ l) (drop-append-add t (drop n b) (length xs) ∙ drop-drop (length xs) n b)
+    ∙ ap (λ (k : ℕ). (t ++ xs) ++ drop k b) (sym (length-append t xs))
 
 -- what `bytes::copy` leaves
 pub copied : (s b d : List ℕ) → d ≡ take (length s) s ++ drop (length s) b → d ≡ over s b
@@ -57,7 +72,7 @@ module _ (t u b d : List ℕ) (a : ℕ) (ea : a ≡ length t) (ed : d ≡ over t
   pub part-written : (e : List ℕ) → e ≡ over u (take (length d - a) (drop a d)) → putMid a (length d - a) d e ≡ over (t ++ u) b
   unfolding over
   part-written e ee =
-      let front : take a d ≡ t = ap (λ (k : ℕ). take k d) ea ∙ ap (take (length t)) ed ∙ take-append-seam t (drop (length t) b) in
+      let front : take a d ≡ t = ap (λ (k : ℕ). take k d) ea ∙ ap (take (length t)) ed ∙ over-front t b in
       let none : drop (length d - a) (drop a d) ≡ [] = drop-of-length-le (drop a d) {i = length d - a} (simp length-drop (omega arith)) in
       let mid : e ≡ u ++ drop (length t + length u) b =
       ee ∙ ap (λ (l : List ℕ). u ++ drop (length u) l) part-is ∙ ap (λ (l : List ℕ). u ++ l) (drop-drop (length u) (length t) b) in

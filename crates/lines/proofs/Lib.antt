@@ -1,9 +1,13 @@
 pub mod LentParts
 pub mod DecimalLaws
 pub mod RowLaws
+pub mod RunLaws
+pub mod FirstLines
 pub mod SplitLaws
+pub mod CountLaws
 pub mod LineLaws
 pub mod SpeltLaws
+pub mod WholeLines
 pub mod ReadSteps
 pub mod ReadFound
 pub mod ReadBack

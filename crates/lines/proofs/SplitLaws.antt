@@ -13,7 +13,7 @@ use Rattle.pair.proofs.Numbers.{by-test}
 use Rattle.lines.specs.Ascii.{newline}
 use Rattle.lines.specs.Splitting.{firstLine, lineEnd, lengthened, splitLines, joined, newlines, unended, Whole, CutShort, LinesOf}
 
-by-byte : {P : Type 0} (b : ℕ) → (b ≡ newline → P) → ((b ≡ newline → ⊥) → P) → P
+pub by-byte : {P : Type 0} (b : ℕ) → (b ≡ newline → P) → ((b ≡ newline → ⊥) → P) → P
 by-byte {P} b p q = by-test (eqb b newline) (λ t. P) (λ e. p (eqb-true b newline e)) (λ e. q (eqb-false b newline e))
 
 -- The place behind the line that goes on at `at`.
@@ -47,11 +47,11 @@ module _ (s : List ℕ) (at : ℕ) where
 
 -- By the first byte: it is a newline, or not.
 module _ (b : ℕ) (s : List ℕ) where
-  split-here : b ≡ newline → splitLines (b ∷ s) ≡ (b ∷ []) ∷ splitLines s
+  pub split-here : b ≡ newline → splitLines (b ∷ s) ≡ (b ∷ []) ∷ splitLines s
   unfolding splitLines
   split-here e = rw (eq-eqb b newline e)
 
-  split-onward : (b ≡ newline → ⊥) → splitLines (b ∷ s) ≡ lengthened b (splitLines s)
+  pub split-onward : (b ≡ newline → ⊥) → splitLines (b ∷ s) ≡ lengthened b (splitLines s)
   unfolding splitLines
   split-onward n = rw (ne-eqb b newline n)
 
@@ -63,13 +63,17 @@ module _ (b : ℕ) (s : List ℕ) where
   unfolding firstLine
   first-onward n = rw (ne-eqb b newline n)
 
-  count-here : b ≡ newline → newlines (b ∷ s) ≡ suc (newlines s)
+  pub count-here : b ≡ newline → newlines (b ∷ s) ≡ suc (newlines s)
   unfolding newlines
   count-here e = rw (eq-eqb b newline e)
 
-  count-onward : (b ≡ newline → ⊥) → newlines (b ∷ s) ≡ newlines s
+  pub count-onward : (b ≡ newline → ⊥) → newlines (b ∷ s) ≡ newlines s
   unfolding newlines
   count-onward n = rw (ne-eqb b newline n)
+
+pub split-none : splitLines [] ≡ []
+unfolding splitLines
+split-none = refl
 
 joined-lengthened : (b : ℕ) (ls : List (List ℕ)) → joined (lengthened b ls) ≡ b ∷ joined ls
 unfolding joined lengthened
@@ -135,6 +139,10 @@ split-next (b ∷ s) h =
     (λ e. split-here b s e ∙ ap (λ (l : List ℕ). l ∷ splitLines (drop (length l) (b ∷ s))) (sym (first-here b s e)))
     (λ n. split-onward b s n ∙ first-lengthened b s ∙ ap (λ (l : List ℕ). l ∷ splitLines (drop (length l) (b ∷ s))) (sym (first-onward b s n)))
 
+-- some bytes have a line
+pub split-some : (s : List ℕ) → 0 < length s → 0 < length (splitLines s)
+split-some s h = omega (arith, ap length (split-next s h))
+
 -- the line that goes on at a place, and those behind it
 pub split-at : (s : List ℕ) (at : ℕ) → at < length s → splitLines (drop at s) ≡ firstLine (drop at s) ∷ splitLines (drop (lineEnd s at) s)
 split-at s at h =
@@ -165,7 +173,7 @@ split-count (b ∷ c ∷ s) =
     (λ e. ap length (split-here b (c ∷ s) e) ∙ omega (arith, split-count (c ∷ s), count-here b (c ∷ s) e))
     (λ n.
     ap length (split-onward b (c ∷ s) n)
-    ∙ lengthened-count b (splitLines (c ∷ s)) (omega (arith, ap length (split-next (c ∷ s) (omega arith))))
+    ∙ lengthened-count b (splitLines (c ∷ s)) (split-some (c ∷ s) (omega arith))
     ∙ omega (arith, split-count (c ∷ s), count-onward b (c ∷ s) n))
 
 -- bytes with no newline, and what stands behind them

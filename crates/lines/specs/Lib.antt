@@ -4,4 +4,5 @@ pub mod Fields
 pub mod Texts
 pub mod Reading
 pub mod Splitting
+pub mod Runs
 pub mod Forms

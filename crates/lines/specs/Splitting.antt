@@ -26,8 +26,8 @@ unfoldable pub splitLines : List ℕ → List (List ℕ)
 splitLines [] = []
 splitLines (b ∷ s) = cond (eqb b newline) ((b ∷ []) ∷ splitLines s) (lengthened b (splitLines s))
 
--- lines one behind the other
-unfoldable pub joined : List (List ℕ) → List ℕ
+-- lines, or other lists, one behind the other
+unfoldable pub joined : {A : Type 0} → List (List A) → List A
 joined [] = []
 joined (l ∷ ls) = l ++ joined ls
 

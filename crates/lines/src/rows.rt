@@ -4,10 +4,11 @@ use crate::keys::BLANK;
 use crate::keys::NEWLINE;
 ghost use mathlib.Core.Path.{_≡_};
 ghost use mathlib.Core.List.{[], _∷_, _++_};
-ghost use Prim.Native.Nat.{_+_, _*_, _≤_};
+ghost use Prim.Native.Nat.{_+_, _*_, _≤_, min};
 ghost use lib.ListN.{length, drop};
 ghost use Rattle.questions.specs.Buffers.{over};
 ghost use Rattle.lines.specs.Decimal.{decimal, rowEnding, rowText, mostNumbers};
+ghost use Rattle.lines.specs.Runs.{runs, rowsText};
 
 // Writes n and the byte behind it at the start of out, and answers their length.
 fn put_ended(out: &mut [u8], n: u64, end: u8) -> usize
@@ -60,6 +61,35 @@ pub fn put_row(out: &mut [u8], numbers: &[u64]) -> usize
         let end = ending(numbers, i);
         at = at + put_ended(&mut out[at..], n, end);
         i += 1;
+    }
+    at
+}
+
+// The end of the run of `width` that begins at i, in a list of n.
+fn run_end(n: usize, i: usize, width: usize) -> usize
+    requires { ⌜ i ≤ n ⌝ }
+    ensures { λ r. ⌜ r ≡ min (i + width) n ⌝ }
+{
+    if n - i < width {
+        return n;
+    }
+    i + width
+}
+
+// Writes numbers in rows of `width` at the start of out, and answers their length. A last row may be
+// shorter.
+pub fn put_rows(out: &mut [u8], numbers: &[u64], width: usize) -> usize
+    requires { ⌜ 1 ≤ width ⌝ }
+    requires { ⌜ length (rowsText (runs width (now numbers))) ≤ length (now out) ⌝ }
+    ensures { λ r. ⌜ r ≡ length (rowsText (runs width (now (numbers .entry)))) ⌝ }
+    ensures { λ _. ⌜ now (out .exit) ≡ over (rowsText (runs width (now (numbers .entry)))) (now (out .entry)) ⌝ }
+{
+    let mut at = 0;
+    let mut i = 0;
+    while i < numbers.len() {
+        let end = run_end(numbers.len(), i, width);
+        at = at + put_row(&mut out[at..], &numbers[i..end]);
+        i = end;
     }
     at
 }

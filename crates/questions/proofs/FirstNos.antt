@@ -1,11 +1,11 @@
 -- Questions in order, and their claims with the lines that they name: the first "no" is found exactly where there is a reason. Over any type R of
 -- refusals, of which `told` says what is answered.
-use Prim.Native.Nat.{ℕ, zero, suc, _+_, _-_}
+use Prim.Native.Nat.{ℕ, zero, suc, _+_, _-_, _<_}
 use mathlib.Core.Path.{_≡_, refl, sym, ap, _∙_, subst}
 use mathlib.Core.Logic.{_⊎_, inl, inr, _↔_}
 use mathlib.Core.List.{List, [], _∷_}
 use native.Mathlib.Omega.{arith}
-use lib.ListN.{take, getD}
+use lib.ListN.{length, take, getD}
 use Rattle.questions.specs.declared.Answer.{Answer}
 use Rattle.questions.specs.Claims.{Claim, Holds}
 use Rattle.questions.specs.Answers.{answer}
@@ -62,6 +62,63 @@ module _ {R : Type 0} where
   then-refused : (f g : Finding R) (r : R) → (f then g) ≡ refusal r → (f ≡ refusal r) ⊎ ((f ≡ met) × (g ≡ refusal r))
   then-refused met g r e = inr (refl, e)
   then-refused (refusal r₀) g r e = inl e
+
+  -- a question, and those behind it
+  module _ (cs : List (Asked R)) (qs : List (List (Asked R))) where
+    pub first-refuses : {r : R} → firstOf cs ≡ refusal r → firstIn (cs ∷ qs) ≡ refusal r
+    unfolding firstIn
+    first-refuses e = rw e
+
+    pub first-passes : firstOf cs ≡ met → firstIn (cs ∷ qs) ≡ firstIn qs
+    unfolding firstIn
+    first-passes e = rw e
+
+-- Claims asked line by line, the first of them on this line: all are so, or one is the first that is not.
+module _ {R : Type 0} (refuse : ℕ → R) (d : Claim) where
+  pub all-asked : (line : ℕ) (cs : List Claim) → ((i : ℕ) → i < length cs → Holds (getD cs i d)) → All (askedFrom refuse line cs)
+  unfolding askedFrom
+  all-asked line [] h = tt
+  all-asked line (a ∷ cs) h = (h 0 (omega arith), all-asked (line + 1) cs (λ i inside. h (suc i) (omega arith)))
+
+  pub each-asked : (line : ℕ) (cs : List Claim) → All (askedFrom refuse line cs) → (i : ℕ) → i < length cs → Holds (getD cs i d)
+  unfolding askedFrom
+  each-asked line [] h i inside = absurd (omega arith)
+  each-asked line (a ∷ cs) h zero inside = h .0
+  each-asked line (a ∷ cs) h (suc i) inside = each-asked (line + 1) cs (h .1) i (omega arith)
+
+  pub record NoAmong (line : ℕ) (cs : List Claim) (r : R) : Type 0 where
+    pub at : ℕ
+    pub inside : at < length cs
+    pub before : (i : ℕ) → i < at → Holds (getD cs i d)
+    pub here : Holds (getD cs at d) → ⊥
+    pub which : refuse (line + at) ≡ r
+
+  pub no-among : (line : ℕ) (cs : List Claim) (r : R) → NoAt (askedFrom refuse line cs) r → NoAmong line cs r
+  unfolding askedFrom
+  no-among line [] r n = absurd n
+  no-among line (a ∷ cs) r (inl p) =
+      let here : line + 0 ≡ line = omega arith in
+      record { at = 0; inside = omega arith; before = λ i below. absurd (omega arith); here = p .0; which = ap refuse here ∙ p .1 }
+  no-among line (a ∷ cs) r (inr p) =
+      let m = no-among (line + 1) cs r (p .1) in
+      let next : line + suc (m .at) ≡ line + 1 + m .at = omega arith in
+      record { at = suc (m .at); inside = omega (arith, m .inside); before = before-next (p .0) (m .before); here = m .here; which = ap refuse next ∙ m .which }
+    where
+      before-next : {k : ℕ} → Holds a → ((i : ℕ) → i < k → Holds (getD cs i d)) → (i : ℕ) → i < suc k → Holds (getD (a ∷ cs) i d)
+      before-next h b zero below = h
+      before-next h b (suc i) below = b i (omega arith)
+
+  no-from : (line at : ℕ) (cs : List Claim) (r : R) → at < length cs → ((i : ℕ) → i < at → Holds (getD cs i d)) → (Holds (getD cs at d) → ⊥) → refuse (line + at) ≡ r
+      → NoAt (askedFrom refuse line cs) r
+  unfolding askedFrom
+  no-from line at [] r inside b n e = absurd (omega arith)
+  no-from line zero (a ∷ cs) r inside b n e = let here : line ≡ line + 0 = omega arith in inl (n, ap refuse here ∙ e)
+  no-from line (suc at) (a ∷ cs) r inside b n e =
+      let next : line + 1 + at ≡ line + suc at = omega arith in
+      inr (b 0 (omega arith), no-from (line + 1) at cs r (omega arith) (λ i below. b (suc i) (omega arith)) n (ap refuse next ∙ e))
+
+  pub no-asked : (line : ℕ) (cs : List Claim) (r : R) → NoAmong line cs r → NoAt (askedFrom refuse line cs) r
+  no-asked line cs r m = no-from line (m .at) cs r (m .inside) (m .before) (m .here) (m .which)
 
 -- What is told. Each claim's refusal tells the question's number k, the claim's line and the length.
 module _ {R : Type 0} (refusalAnswer : R → Answer) (needed : ℕ) where

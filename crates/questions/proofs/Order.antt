@@ -56,22 +56,33 @@ pairwise-map f g [] ys = refl
 pairwise-map f g (x ∷ xs) [] = refl
 pairwise-map f g (x ∷ xs) (y ∷ ys) = ap (λ (l : List Claim). f (g x) y ∷ l) (pairwise-map f g xs ys)
 
+-- claims asked line by line: the first of them fails, or passes on to the others
+module _ {R : Type 0} (refuse : ℕ → R) (line : ℕ) {a : Claim} {cs ds : List Claim} (e : cs ≡ a ∷ ds) where
+  pub asked-fails : test a ≡ false → firstOf (askedFrom refuse line cs) ≡ refusal (refuse line)
+  unfolding askedFrom firstOf
+  asked-fails n = ap (λ (l : List Claim). firstOf (askedFrom refuse line l)) e ∙ rw n
+
+  pub asked-passes : test a ≡ true → firstOf (askedFrom refuse line cs) ≡ firstOf (askedFrom refuse (line + 1) ds)
+  unfolding askedFrom firstOf
+  asked-passes h = ap (λ (l : List Claim). firstOf (askedFrom refuse line l)) e ∙ rw h
+
+pub none-asked : {R : Type 0} (refuse : ℕ → R) (line : ℕ) → firstOf (askedFrom refuse line []) ≡ met
+unfolding askedFrom firstOf
+none-asked refuse line = refl
+
 -- claims that two lists make place by place, asked line by line: what is found from place i on
 module _ {A B R : Type 0} (f : A → B → Claim) (refuse : ℕ → R) (line : ℕ) (xs : List A) (ys : List B) (i : ℕ) where
   module _ (d : A) (e : B) (a : i < length xs) (b : i < length ys) where
-    here : askedFrom refuse line (pairwise f (drop i xs) (drop i ys))
-        ≡ (f (getD xs i d) (getD ys i e) else refuse line) ∷ askedFrom refuse (line + 1) (pairwise f (drop (i + 1) xs) (drop (i + 1) ys))
-    unfolding askedFrom pairwise
+    here : pairwise f (drop i xs) (drop i ys) ≡ f (getD xs i d) (getD ys i e) ∷ pairwise f (drop (i + 1) xs) (drop (i + 1) ys)
+    unfolding pairwise
     here = rw (add-one i, drop-cons xs i d a, drop-cons ys i e b)
 
     pub line-fails : test (f (getD xs i d) (getD ys i e)) ≡ false → firstOf (askedFrom refuse line (pairwise f (drop i xs) (drop i ys))) ≡ refusal (refuse line)
-    unfolding firstOf
-    line-fails n = ap firstOf here ∙ rw n
+    line-fails n = asked-fails refuse line here n
 
     pub line-passes : test (f (getD xs i d) (getD ys i e)) ≡ true
         → firstOf (askedFrom refuse line (pairwise f (drop i xs) (drop i ys))) ≡ firstOf (askedFrom refuse (line + 1) (pairwise f (drop (i + 1) xs) (drop (i + 1) ys)))
-    unfolding firstOf
-    line-passes h = ap firstOf here ∙ rw h
+    line-passes h = asked-passes refuse line here h
 
   pub lines-pass : length xs ≤ i → firstOf (askedFrom refuse line (pairwise f (drop i xs) (drop i ys))) ≡ met
   unfolding askedFrom firstOf pairwise

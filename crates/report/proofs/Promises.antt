@@ -5,13 +5,14 @@ use mathlib.Core.Path.{_≡_, sym, ap, _∙_}
 use lib.ListN.{take}
 use Rattle.lines.specs.Texts.{longest}
 use Rattle.certificate.specs.Keys.{sheetFields, certificateFields}
+use Rattle.certificate.specs.Refusals.{refusalAnswer}
 use Rattle.certificate.proofs.Laws.{cut-sheet, cut-certificate}
 use Rattle.report.specs.Printed.{outcomePrints, certifyPrints, verifyPrints}
 use Rattle.report.proofs.Answers.{answerPrints, check-prints}
 
 pub certify-cut : (s : List ℕ) (m : ℕ) → longest sheetFields < m → certifyPrints (take m s) ≡ certifyPrints s
 unfolding certifyPrints
-certify-cut s m h = ap outcomePrints (cut-sheet s m (longest certificateFields) h)
+certify-cut s m h = ap (outcomePrints refusalAnswer) (cut-sheet s m (longest certificateFields) h)
 
 pub verify-cut : (c : List ℕ) (m : ℕ) → longest certificateFields < m → verifyPrints (take m c) ≡ verifyPrints c
 unfolding verifyPrints

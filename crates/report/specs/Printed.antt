@@ -23,14 +23,14 @@ numberLine key n = lineText (key holds Number) (pos n)
 unfoldable pub refusalLines : Answer → List ℕ
 refusalLines a = numberLine "refused=" (a .refusal) ++ numberLine "line=" (a .line)
 
--- of what writing does
-unfoldable pub outcomePrints : Outcome Refusal → List ℕ
-outcomePrints (written t) = t
-outcomePrints (refused r) = refusalLines (refusalAnswer r)
+-- of what a call does that writes a text or refuses, over any refusals
+unfoldable pub outcomePrints : {R : Type 0} → (R → Answer) → Outcome R → List ℕ
+outcomePrints told (written t) = t
+outcomePrints told (refused r) = refusalLines (told r)
 
 -- `certify`, for a sheet: its certificate, the room being that of the longest, or the refusal
 unfoldable pub certifyPrints : List ℕ → List ℕ
-certifyPrints s = outcomePrints (outcome s (longest certificateFields))
+certifyPrints s = outcomePrints refusalAnswer (outcome s (longest certificateFields))
 
 -- of what checking finds in the certificate c
 unfoldable pub foundPrints : List ℕ → Finding Refusal → List ℕ

@@ -52,7 +52,7 @@ fn put_number(out: &mut [u8], key: Key, n: u64) -> usize
 }
 
 // Writes the two lines of a refusal at the start of out, and answers their length.
-fn put_refusal(out: &mut [u8], answer: Answer) -> usize
+pub fn put_refusal(out: &mut [u8], answer: Answer) -> usize
     requires { ⌜ 55 ≤ length (now out) ⌝ }
     ensures { λ r. ⌜ r ≡ length (refusalLines answer) ⌝ }
     ensures { λ _. ⌜ now (out .exit) ≡ over (refusalLines answer) (now (out .entry)) ⌝ }

@@ -36,7 +36,7 @@ pub fn certificate_buffer() -> [u8; LONGEST_CERTIFICATE + 1]
 
 // One read of standard input: how many bytes it put at the start of part, none at the end of the
 // input.
-fn read_once(part: &mut [u8]) -> Input
+pub fn read_once(part: &mut [u8]) -> Input
     ensures { λ r. ⌜ Within (length (now (part .entry))) r ⌝ }
 {
     let got = libc::read(STDIN_FILENO, part);

@@ -13,6 +13,13 @@ extern "C" {
     ) -> Answer;
 
     fn hm_certificate_check(certificate: *const u8, certificate_len: usize) -> Answer;
+
+    fn hm_catalogue_report(
+        sheets: *const u8,
+        sheets_len: usize,
+        buffer: *mut u8,
+        buffer_len: usize,
+    ) -> Answer;
 }
 
 pub fn write(sheet: &[u8], buffer: &mut [u8]) -> Answer {
@@ -22,6 +29,11 @@ pub fn write(sheet: &[u8], buffer: &mut [u8]) -> Answer {
 
 pub fn check(certificate: &[u8]) -> Answer {
     unsafe { hm_certificate_check(certificate.as_ptr(), certificate.len()) }
+}
+
+pub fn report(sheets: &[u8], buffer: &mut [u8]) -> Answer {
+    let (room, buffer) = (buffer.len(), buffer.as_mut_ptr());
+    unsafe { hm_catalogue_report(sheets.as_ptr(), sheets.len(), buffer, room) }
 }
 
 macro_rules! declare_from_numbers {

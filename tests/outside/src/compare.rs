@@ -2,6 +2,7 @@
 //! the memory in which the buffer lies.
 
 use crate::calls;
+use reference::catalogue::{write_report, LONGEST_REPORT};
 use reference::sheet::Numbers;
 use reference::text::{self, Answer, LONGEST_CERTIFICATE, REFUSALS};
 use std::fmt::Write;
@@ -12,6 +13,17 @@ pub enum Call<'a> {
     Write(&'a [u8]),
     Check(&'a [u8]),
     FromNumbers(Numbers),
+    Report(&'a [u8]),
+}
+
+impl Call<'_> {
+    /// A buffer of so many bytes takes everything that the call writes.
+    fn longest(self) -> usize {
+        match self {
+            Call::Report(_) => LONGEST_REPORT,
+            _ => LONGEST_CERTIFICATE,
+        }
+    }
 }
 
 /// At least so many bytes stand on either side of a buffer, which no call may
@@ -43,8 +55,8 @@ impl Agreed {
         if answer != right || seen != expected {
             return Err(report());
         }
-        if !fits(answer, room) {
-            let rule = format!("{LONGEST_CERTIFICATE} bytes are to take every certificate\n");
+        if !fits(answer, room, call.longest()) {
+            let rule = format!("{} bytes are always to suffice\n", call.longest());
             return Err(report() + &rule);
         }
         self.calls[answer.refusal as usize] += 1;
@@ -56,11 +68,11 @@ impl Agreed {
     }
 }
 
-/// No certificate is longer than the header's constant, and a buffer of so many
-/// bytes is never too short.
-fn fits(answer: Answer, room: usize) -> bool {
-    let too_short = answer.refusal == 12 && room >= LONGEST_CERTIFICATE;
-    answer.length <= LONGEST_CERTIFICATE as u64 && !too_short
+/// No certificate and no report is longer than the header's constant, and a buffer
+/// of so many bytes is never too short.
+fn fits(answer: Answer, room: usize, longest: usize) -> bool {
+    let too_short = answer.refusal == 12 && room >= longest;
+    answer.length <= longest as u64 && !too_short
 }
 
 /// Memory with a buffer in its middle. The bytes vary, so that one moved to
@@ -80,6 +92,7 @@ fn of_archive(call: Call, buffer: &mut [u8]) -> Answer {
         Call::Write(sheet) => calls::write(sheet, buffer),
         Call::Check(certificate) => calls::check(certificate),
         Call::FromNumbers(numbers) => calls::from_numbers(numbers, buffer),
+        Call::Report(sheets) => calls::report(sheets, buffer),
     }
 }
 
@@ -88,45 +101,63 @@ fn of_reference(call: Call, buffer: &mut [u8]) -> Answer {
         Call::Write(sheet) => text::write_from_text(sheet, buffer),
         Call::Check(certificate) => text::check(certificate),
         Call::FromNumbers(numbers) => text::write_from_numbers(numbers, buffer),
+        Call::Report(sheets) => write_report(sheets, buffer),
     }
 }
 
-/// The case, so that a person can paste it, and both results.
-fn difference(call: Call, room: usize, seen: (Answer, &[u8]), expected: (Answer, &[u8])) -> String {
-    let mut report = match call {
-        Call::Write(sheet) => format!(
-            "hm_certificate_write, a buffer of {room} bytes, on what this prints:\n    printf '{}'\n",
-            for_printf(sheet)
-        ),
-        Call::Check(certificate) => format!(
-            "hm_certificate_check, on what this prints:\n    printf '{}'\n",
-            for_printf(certificate)
-        ),
-        Call::FromNumbers(numbers) => format!(
-            "hm_certificate_from_numbers({}, buffer, {room})\n",
-            numbers.map(|n| n.to_string()).join(", ")
-        ),
+/// The case, so that a person can paste it.
+pub fn pasted(call: Call, room: usize) -> String {
+    let on = |name: &str, text: &[u8]| {
+        let text = for_printf(text);
+        format!("{name}, on what this prints:\n    printf '{text}'\n")
     };
+    let buffer = format!("a buffer of {room} bytes");
+    match call {
+        Call::Write(sheet) => on(&format!("hm_certificate_write, {buffer}"), sheet),
+        Call::Check(certificate) => on("hm_certificate_check", certificate),
+        Call::FromNumbers(numbers) => {
+            let numbers = numbers.map(|n| n.to_string()).join(", ");
+            format!("hm_certificate_from_numbers({numbers}, buffer, {room})\n")
+        }
+        Call::Report(sheets) => on(&format!("hm_catalogue_report, {buffer}"), sheets),
+    }
+}
+
+/// The case and both results.
+fn difference(call: Call, room: usize, seen: (Answer, &[u8]), expected: (Answer, &[u8])) -> String {
+    let mut report = pasted(call, room);
+    let unlike = (0..seen.1.len()).find(|&at| seen.1[at] != expected.1[at]);
+    let place = unlike.map(|at| at as i64 - front(room) as i64);
     for (whose, (answer, memory)) in [("archive", seen), ("reference", expected)] {
         let Answer {
             refusal,
             line,
             length,
         } = answer;
-        let bytes = memory[front(room)..][..room].escape_ascii();
+        let bytes = shown(&memory[front(room)..][..room], place.unwrap_or(0));
         let _ = writeln!(
             report,
             "{whose}: refusal {refusal}, line {line}, length {length}; the buffer:\n    {bytes}"
         );
     }
-    if let Some(at) = (0..seen.1.len()).find(|&at| seen.1[at] != expected.1[at]) {
-        let place = at as i64 - front(room) as i64;
+    if let Some(place) = place {
         let _ = writeln!(
             report,
             "the first byte that differs is at {place} of the buffer"
         );
     }
     report
+}
+
+/// The bytes of a buffer; of more than a certificate takes, those about a place.
+fn shown(buffer: &[u8], place: i64) -> String {
+    const MOST: usize = 400;
+    let first = (place.max(0) as usize).saturating_sub(MOST / 2);
+    let bytes: Vec<u8> = match buffer.len() {
+        0..=MOST => buffer.to_vec(),
+        _ => buffer.iter().copied().skip(first).take(MOST).collect(),
+    };
+    bytes.escape_ascii().to_string()
 }
 
 /// Bytes as a format of printf(1) in single quotes.

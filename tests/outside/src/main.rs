@@ -1,12 +1,13 @@
 //! Calls the archives of crates honemagenta and pair_c from outside: the
-//! certificate's calls beside the reference, answers and every byte of the
-//! buffers, and the pair operations beside exact results.
+//! calls for certificates and reports beside the reference, answers and every
+//! byte of the buffers, and the pair operations beside exact results.
 //!
 //! outside                  in some seconds
 //! outside --long           in some minutes, 200,000 of each sort of random case
 //! outside --seed NUMBER    with other random cases
 
 mod calls;
+mod catalogues;
 mod compare;
 mod exact;
 mod groups;
@@ -70,7 +71,7 @@ fn run(asked: &Asked) -> Result<(), String> {
         asked.seed
     );
     let operations = pair_operations(asked.seed, count)?;
-    let calls = certificates(asked, count)?;
+    let calls = certificates(asked, count)? + reports(asked.seed, count)?;
     println!(
         "\noutside: {operations} pair operations and {calls} calls are as they should be, in {:.0} s",
         started.elapsed().as_secs_f64()
@@ -106,7 +107,7 @@ fn certificates(asked: &Asked, count: u64) -> Result<u64, String> {
         "\n{:24} {:>7} {:>8}   calls with refusal 0, 1, .. {REFUSALS}",
         "", "cases", "s"
     );
-    let groups: &[(&str, &dyn Fn() -> Tried)] = &[
+    tried(&[
         ("near thresholds", &|| groups::given(near_numbers())),
         ("at limits", &|| groups::given(limits.iter().copied())),
         ("kept cases", &groups::kept_cases),
@@ -122,7 +123,28 @@ fn certificates(asked: &Asked, count: u64) -> Result<u64, String> {
             groups::damaged_certificates(seed, count)
         }),
         (&finer, &|| groups::finer_workings(seed, count / 4, &near)),
-    ];
+    ])
+}
+
+/// How many calls were tried. A catalogue of random sheets is some cases in one.
+fn reports(seed: u64, count: u64) -> Result<u64, String> {
+    tried(&[
+        ("catalogues: kept", &catalogues::kept_catalogues),
+        ("  numbers of sheets", &catalogues::numbers_of_sheets),
+        ("  every room", &catalogues::every_room),
+        ("  cut at every byte", &catalogues::every_cut),
+        ("  faulty sheets", &catalogues::faulty_sheets),
+        ("  random", &|| {
+            catalogues::random_catalogues(seed, count / 10)
+        }),
+        ("  random, large", &|| {
+            catalogues::large_catalogues(seed, count / 1000)
+        }),
+    ])
+}
+
+/// Tries groups; how many calls there were.
+fn tried(groups: &[(&str, &dyn Fn() -> Tried)]) -> Result<u64, String> {
     let mut calls = 0;
     for (name, group) in groups {
         calls += timed(name, *group)?;

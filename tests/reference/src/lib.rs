@@ -1,8 +1,9 @@
-//! Reference working of a lipped C or Z section, from document 01 alone.
+//! Reference working of a lipped C or Z section, from documents 01 and 02 alone.
 //!
 //! Slow and plain on purpose: wide integers, every intermediate pair kept.
 
-// The working.
+// The working, certificates and reports.
+pub mod catalogue;
 pub mod pair;
 pub mod rules;
 pub mod sheet;

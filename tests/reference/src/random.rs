@@ -1,8 +1,10 @@
-//! Random sections over the whole ranges. All meet questions 2 to 10.
+//! Random sections over the whole ranges, which meet questions 2 to 10, and catalogues.
 
 use crate::chance::Chance;
+use crate::damage::{damaged, moved};
 use crate::sheet::place::{ALLOW, B1, B2, C, FYB, GM0, H, R, ROUNDS, T, TNOM};
 use crate::sheet::{ask_before_working, Sheet, RANGES};
+use crate::text::{sheet_text, MOST_SPELT};
 
 pub(crate) fn meets_questions(sheet: &Sheet) -> bool {
     ask_before_working(sheet.numbers()).is_ok()
@@ -163,4 +165,23 @@ pub fn any_section(chance: &mut Chance) -> Sheet {
             return sheet;
         }
     }
+}
+
+/// A random sheet that is spelt right: a section, one in three with numbers moved.
+fn random_sheet(chance: &mut Chance) -> Vec<u8> {
+    let mut numbers = any_section(chance).numbers();
+    if chance.one_in(3) {
+        numbers = moved(chance, numbers).map(|number| number.min(MOST_SPELT));
+    }
+    sheet_text(numbers).into_bytes()
+}
+
+/// So many random sheets, in one catalogue of four one of them damaged.
+pub fn random_catalogue(chance: &mut Chance, count: usize) -> Vec<u8> {
+    let mut sheets: Vec<_> = (0..count).map(|_| random_sheet(chance)).collect();
+    if chance.one_in(4) {
+        let i = chance.place(count);
+        sheets[i] = damaged(chance, &sheets[i]);
+    }
+    sheets.concat()
 }

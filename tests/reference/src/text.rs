@@ -22,7 +22,7 @@ pub const BEHIND_SHEET: u64 = Sheet::LINES as u64 + 1;
 pub const BEHIND_CERTIFICATE: u64 = CERTIFICATE_LINES as u64 + 1;
 
 /// The refusals have the numbers from 1 to this.
-pub const REFUSALS: usize = 13;
+pub const REFUSALS: usize = 15;
 
 /// What a call returns, as include/honemagenta.h has it: 0 or the number of the
 /// refusal, a line and a length.
@@ -35,7 +35,7 @@ pub struct Answer {
 }
 
 impl Answer {
-    /// A certificate of that length is written or passes.
+    /// A text of that length is written or passes.
     fn in_order(length: usize) -> Answer {
         Answer {
             refusal: 0,
@@ -44,7 +44,7 @@ impl Answer {
         }
     }
 
-    fn refused(refusal: Refusal) -> Answer {
+    pub(crate) fn refused(refusal: Refusal) -> Answer {
         Answer {
             refusal: refusal.number,
             line: refusal.line,
@@ -188,8 +188,7 @@ pub fn certificate_text(accepted: &Accepted) -> String {
 }
 
 /// Question 12; the buffer is written where it is met.
-fn write(accepted: &Accepted, buffer: &mut [u8]) -> Answer {
-    let text = certificate_text(accepted);
+pub(crate) fn write_text(text: &str, buffer: &mut [u8]) -> Answer {
     if text.len() > buffer.len() {
         return Answer {
             refusal: 12,
@@ -213,7 +212,7 @@ pub fn write_from_text(sheet: &[u8], buffer: &mut [u8]) -> Answer {
 /// the second.
 pub fn write_from_numbers(numbers: Numbers, buffer: &mut [u8]) -> Answer {
     match ask_numbers(numbers) {
-        Ok(accepted) => write(&accepted, buffer),
+        Ok(accepted) => write_text(&certificate_text(&accepted), buffer),
         Err(refusal) => Answer::refused(refusal),
     }
 }
@@ -256,6 +255,6 @@ pub fn printed_check(certificate: &[u8]) -> String {
     }
 }
 
-fn refusal_lines(refusal: Refusal) -> String {
+pub(crate) fn refusal_lines(refusal: Refusal) -> String {
     format!("refused={}\nline={}\n", refusal.number, refusal.line)
 }

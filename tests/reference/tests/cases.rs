@@ -1,6 +1,7 @@
 //! The programs' cases show what they are meant to show.
 
-use reference::cases::{certificates, sheets, Case, Meant};
+use reference::cases::{catalogues, certificates, sheets, Case, Meant};
+use reference::catalogue::{write_report, LONGEST_REPORT};
 use reference::text::{check, write_from_text, Answer, LONGEST_CERTIFICATE};
 use std::collections::BTreeSet;
 
@@ -32,4 +33,11 @@ fn sheets_are_answered_as_meant() {
 fn certificates_are_answered_as_meant() {
     let refusals = answered_as_meant(&certificates(), check);
     assert!(refusals.is_superset(&[0, 1, 2, 7, 11, 13].into()));
+}
+
+#[test]
+fn catalogues_are_answered_as_meant() {
+    let write = |text: &[u8]| write_report(text, &mut [0; LONGEST_REPORT]);
+    let refusals = answered_as_meant(&catalogues(), write);
+    assert_eq!(refusals, [0, 14, 15].into());
 }

@@ -1,6 +1,7 @@
 //! The longest texts, and the constants that say how long they are.
 
 use reference::cases::{each_line_changed, longest_certificate, longest_sheet};
+use reference::catalogue::{LONGEST_REPORT, MOST_SHEETS};
 use reference::repository::file_text;
 use reference::text::{
     printed, printed_check, read_certificate, read_sheet, BEHIND_CERTIFICATE, BEHIND_SHEET,
@@ -49,35 +50,39 @@ fn constant(file: &str, words: &str) -> usize {
     let [rest] = found[..] else {
         panic!("{file} has {} lines {words}", found.len());
     };
-    let digits = rest.split(|c: char| !c.is_ascii_digit()).next();
+    let digits = rest.replace('_', "");
+    let digits = digits.split(|c: char| !c.is_ascii_digit()).next();
     digits.and_then(|n| n.parse().ok()).expect(file)
 }
 
-/// The buffer that the header asks for is the one that the code needs.
+/// Asserts the constants of a file, which stand behind these words about their names.
+fn assert_constants(file: &str, (before, behind): (&str, &str), constants: &[(&str, usize)]) {
+    for (name, number) in constants {
+        let words = format!("{before}{name}{behind}");
+        assert_eq!(constant(file, &words), *number, "{file}: {name}");
+    }
+}
+
+/// The buffers that the header asks for are those that the code needs.
 #[test]
 fn the_constants_of_header_code_and_example_are_the_same() {
-    for (file, words, longest) in [
-        (
-            "include/honemagenta.h",
-            "#define HM_CERTIFICATE_LONGEST ",
-            LONGEST_CERTIFICATE,
-        ),
-        (
-            "crates/certificate/src/lib.rt",
-            "pub const LONGEST_CERTIFICATE: usize = ",
-            LONGEST_CERTIFICATE,
-        ),
-        (
-            "crates/certificate/src/lib.rt",
-            "pub const LONGEST_SHEET: usize = ",
-            LONGEST_SHEET,
-        ),
-        (
-            "examples/honemagenta.py",
-            "CERTIFICATE_LONGEST = ",
-            LONGEST_CERTIFICATE,
-        ),
-    ] {
-        assert_eq!(constant(file, words), longest, "{file}: {words}");
-    }
+    let header = [
+        ("HM_CERTIFICATE_LONGEST", LONGEST_CERTIFICATE),
+        ("HM_REPORT_LONGEST", LONGEST_REPORT),
+        ("HM_SHEETS_MOST", MOST_SHEETS),
+    ];
+    let certificate = [
+        ("LONGEST_CERTIFICATE", LONGEST_CERTIFICATE),
+        ("LONGEST_SHEET", LONGEST_SHEET),
+    ];
+    let catalogue = [
+        ("LONGEST_REPORT", LONGEST_REPORT),
+        ("MOST_SHEETS", MOST_SHEETS),
+    ];
+    let python = header.map(|(name, number)| (name.trim_start_matches("HM_"), number));
+    let code = ("pub const ", ": usize = ");
+    assert_constants("include/honemagenta.h", ("#define ", " "), &header);
+    assert_constants("crates/certificate/src/lib.rt", code, &certificate);
+    assert_constants("crates/catalogue/src/lib.rt", code, &catalogue);
+    assert_constants("examples/honemagenta.py", ("", " = "), &python);
 }

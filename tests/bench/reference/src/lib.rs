@@ -1,21 +1,28 @@
-//! The reference's three calls for C, as tests/bench/calls.h has them.
+//! The reference's four calls for C, as tests/bench/calls.h has them.
 
+use reference::catalogue::write_report;
 use reference::text::{check, write_from_numbers, write_from_text, Answer};
 use reference::with_sheet_lines;
 use std::slice;
 
-/// # Safety
-/// Both parts are the caller's, with their lengths.
-#[no_mangle]
-pub unsafe extern "C" fn reference_write(
-    sheet: *const u8,
-    sheet_length: usize,
-    buffer: *mut u8,
-    room: usize,
-) -> Answer {
-    let sheet = slice::from_raw_parts(sheet, sheet_length);
-    write_from_text(sheet, slice::from_raw_parts_mut(buffer, room))
+macro_rules! define_writing {
+    ($($name:ident: $written:ident),*) => {$(
+        /// # Safety
+        /// Both parts are the caller's, with their lengths.
+        #[no_mangle]
+        pub unsafe extern "C" fn $name(
+            text: *const u8,
+            length: usize,
+            buffer: *mut u8,
+            room: usize,
+        ) -> Answer {
+            let text = slice::from_raw_parts(text, length);
+            $written(text, slice::from_raw_parts_mut(buffer, room))
+        }
+    )*};
 }
+
+define_writing!(reference_write: write_from_text, reference_report: write_report);
 
 /// # Safety
 /// The certificate is the caller's, with its length.

@@ -1,9 +1,12 @@
-//! Makes what crates/certify, verify and certificate_cases read and have to print, and
-//! the sheets and the output of examples/.
+//! Makes what crates/certify, verify, survey and certificate_cases read and have to
+//! print, and the sheets, the catalogue and the output of examples/.
 //!
 //! certificate_cases [--write]
 
-use reference::cases::{certificate_of, certificates, sheets, text_of, z_section};
+use reference::cases::{
+    certificate_of, certificates, example_catalogue, sheets, text_of, z_section,
+};
+use reference::catalogue::{printed_report, write_report, LONGEST_REPORT};
 use reference::kept::{hold_or_write, Made};
 use reference::named::{SHEET_A, SHEET_B};
 use reference::repository::refusal_words;
@@ -15,23 +18,17 @@ use std::process::ExitCode;
 
 fn main() -> ExitCode {
     let mut made = Made::default();
-    let sheet = text_of(SHEET_B);
-    let certificate = certificate_of(SHEET_B);
-    program(&mut made, "certify", &sheet, printed(sheet.as_bytes()));
-    program(
-        &mut made,
-        "verify",
-        &certificate,
-        printed_check(certificate.as_bytes()),
-    );
+    program(&mut made, "certify", text_of(SHEET_B), printed);
+    program(&mut made, "verify", certificate_of(SHEET_B), printed_check);
+    program(&mut made, "survey", example_catalogue(), printed_report);
     let texts = certificate_cases(&mut made);
     examples(&mut made);
     hold_or_write("certificate cases", &format!("{texts} texts"), &made)
 }
 
-fn program(made: &mut Made, name: &str, stdin: &str, stdout: String) {
+fn program(made: &mut Made, name: &str, stdin: String, prints: fn(&[u8]) -> String) {
+    made.file(format!("crates/{name}/stdout"), prints(stdin.as_bytes()));
     made.file(format!("crates/{name}/stdin"), stdin);
-    made.file(format!("crates/{name}/stdout"), stdout);
 }
 
 /// Each text under data/, its name among the arguments, and what is printed; how many
@@ -79,6 +76,12 @@ fn write_answers(sheet: &[u8]) -> String {
     text
 }
 
+/// Sheet B as the eleventh question refuses it.
+const NO_ALLOWANCE: Sheet = Sheet {
+    allow: 0,
+    ..SHEET_B
+};
+
 fn examples(made: &mut Made) {
     for (name, sheet) in [
         ("sheet_a", SHEET_A),
@@ -87,22 +90,23 @@ fn examples(made: &mut Made) {
     ] {
         made.file(format!("examples/{name}.txt"), text_of(sheet));
     }
-    made.file("examples/output.txt", example_output());
+    let catalogue = example_catalogue();
+    let report = printed_report(catalogue.as_bytes());
+    made.file("examples/catalogue.txt", catalogue);
+    made.file("examples/catalogue_report.txt", report);
+    let output = [certificate_output(), report_output()].concat();
+    made.file("examples/output.txt", output);
 }
 
-/// What examples/certificate.c and honemagenta.py print.
-fn example_output() -> String {
+/// What examples/certificate.c and honemagenta.py print of certificates.
+fn certificate_output() -> String {
     let certificate = certificate_of(SHEET_B);
     let mut changed = certificate.clone().into_bytes();
     let last_digit = changed.len() - 2;
     changed[last_digit] ^= 1;
-    let no_allowance = Sheet {
-        allow: 0,
-        ..SHEET_B
-    };
     let write = |sheet: Sheet, room| write_from_numbers(sheet.numbers(), &mut vec![0; room]);
     let written = write(SHEET_B, LONGEST_CERTIFICATE);
-    let refused = write(no_allowance, LONGEST_CERTIFICATE);
+    let refused = write(NO_ALLOWANCE, LONGEST_CERTIFICATE);
     [
         in_words("Certificate from twelve numbers", written),
         certificate.clone(),
@@ -110,6 +114,19 @@ fn example_output() -> String {
         in_words("Checked with a digit changed", check(&changed)),
         in_words("Certificate of the sheet with allow=0", refused),
         in_words("Certificate in a buffer of 100 bytes", write(SHEET_B, 100)),
+    ]
+    .concat()
+}
+
+/// What they print of a report.
+fn report_output() -> String {
+    let catalogue = [NO_ALLOWANCE, SHEET_B].map(text_of).concat();
+    let cut = &catalogue[..catalogue.len() - 1];
+    let write = |text: &str| write_report(text.as_bytes(), &mut [0; LONGEST_REPORT]);
+    [
+        in_words("Report on a catalogue of two sheets", write(&catalogue)),
+        printed_report(catalogue.as_bytes()),
+        in_words("Report without the last byte", write(cut)),
     ]
     .concat()
 }
@@ -127,6 +144,7 @@ fn in_words(what: &str, answer: Answer) -> String {
     let words = &refusal_words()[refusal as usize - 1];
     match refusal {
         12 => format!("{what}: {words}, {length} bytes are needed\n"),
+        15 => format!("{what}: refused, question {refusal}, sheet {line}: {words}\n"),
         _ => format!("{what}: refused, question {refusal}, line {line}: {words}\n"),
     }
 }

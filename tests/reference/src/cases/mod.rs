@@ -1,9 +1,13 @@
 //! Texts for the programs. What each is meant to show is stated by hand;
 //! tests/cases.rs holds the reference to it.
 
+mod catalogues;
 mod certificates;
 mod sheets;
 
+pub use catalogues::{
+    accepted_sheets, catalogues, example_catalogue, in_turn, mixed, refused_sheets,
+};
 pub use certificates::{certificates, with_figure, with_figure_moved};
 pub use sheets::sheets;
 

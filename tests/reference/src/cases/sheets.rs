@@ -24,7 +24,7 @@ fn least() -> Sheet {
 
 /// Values at the upper ends of their ranges, but for lip and radius, to which
 /// the eighth and ninth question leave less.
-fn greatest() -> Sheet {
+pub(super) fn greatest() -> Sheet {
     let ends = "form=1 h=50000 b1=20000 b2=20000 tnom=600 t=600 fyb=700 gm0=1500 rounds=8";
     with(with(SHEET_A, ends), "c=11940 r=1940 allow=1000")
 }

@@ -9,7 +9,7 @@ use Rattle.certificate.specs.declared.Refusal.the-variants.{Room}
 use Rattle.certificate.specs.Refusals.{refusalAnswer}
 use Rattle.certificate.specs.Forms.{certificateText}
 use Rattle.certificate.proofs.Lengths.{longest-certificate}
-use Rattle.certificate.proofs.OutcomeSteps.{fits, too-long, answers-refusal, answers-text}
+use Rattle.questions.proofs.Laws.{fits, too-long, answers-refusal, answers-text}
 use Rattle.certificate.proofs.certificates.put.Statement.{statement}
 use Rattle.certificate.proofs.certificates.put.Tie as tie
 
@@ -34,7 +34,7 @@ returns c =
     let b = s .args .buffer .now in
     let t = certificateText (s .args .values) in
     let needed = c .before .before .text-length .ensures .0 in
-    answers-refusal _ _ b (Room (length t)) (too-long (length b) t (omega (arith, needed, c .before .if2 .taken))) (c .refusal-answer .ensures ∙ ap (λ (n : ℕ). refusalAnswer (Room n)) needed)
+    answers-refusal refusalAnswer _ _ b (Room (length t)) (too-long Room (length b) t (omega (arith, needed, c .before .if2 .taken))) (c .refusal-answer .ensures ∙ ap (λ (n : ℕ). refusalAnswer (Room n)) needed)
 
 put-text-requires : tie.Need-put-text-requires
 put-text-requires c κs = room (c .before)
@@ -52,7 +52,7 @@ returns-2 c =
     let b = s .args .buffer .now in
     let t = certificateText (s .args .values) in
     let w = c .before .before .before .put-text .ensures in
-    answers-text _ _ b t _ _ (fits (length b) t (room j)) (w .0) (c .answer .ensures) (w .1)
+    answers-text refusalAnswer _ _ b t _ _ (fits Room (length b) t (room j)) (w .0) (c .answer .ensures) (w .1)
 
 pub put-spec : {M : Type 1} → statement M
 put-spec =

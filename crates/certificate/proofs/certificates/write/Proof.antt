@@ -5,7 +5,8 @@ use lib.ListN.{length}
 use Rattle.questions.specs.Outcomes.{Outcome, answerOf, bufferAfter}
 use Rattle.certificate.specs.declared.Refusal.{Refusal}
 use Rattle.certificate.specs.Refusals.{refusalAnswer}
-use Rattle.certificate.proofs.OutcomeSteps.{bad-outcome, right-outcome, answers-refusal}
+use Rattle.certificate.proofs.OutcomeSteps.{bad-outcome, right-outcome}
+use Rattle.questions.proofs.Laws.{answers-refusal}
 use Rattle.certificate.proofs.certificates.write.Statement.{statement}
 use Rattle.certificate.proofs.certificates.write.Tie as tie
 
@@ -27,7 +28,7 @@ write-sheet-requires c κs = search needs
 returns : tie.Need-returns
 returns c =
     let a = c .before .before .before .before .before .before .before .args in
-    answers-refusal _ _ (a .buffer .now) _
+    answers-refusal refusalAnswer _ _ (a .buffer .now) _
     (bad-outcome (a .sheet .now) (length (a .buffer .now)) _ (sym (c .before .before .before .before .read-sheet .ensures) ∙ c .before .before .read .given .1)) (c .refusal-answer .ensures)
 
 same-length : tie.Need-same-length

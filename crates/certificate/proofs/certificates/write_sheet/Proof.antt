@@ -14,7 +14,8 @@ use Rattle.certificate.specs.declared.Refusal.{Refusal}
 use Rattle.certificate.specs.declared.Refusal.the-variants.{Room}
 use Rattle.certificate.specs.Refusals.{refusalAnswer}
 use Rattle.certificate.proofs.Shown.{integers-of}
-use Rattle.certificate.proofs.OutcomeSteps.{judged-refusal, judged-figures, refused-by-verdict, room-asked, accepted-length, answers-refusal}
+use Rattle.certificate.proofs.OutcomeSteps.{judged-refusal, judged-figures, refused-by-verdict, room-asked, accepted-length}
+use Rattle.questions.proofs.Laws.{answers-refusal}
 use Rattle.certificate.proofs.certificates.write_sheet.Statement.{statement}
 use Rattle.certificate.proofs.certificates.write_sheet.Tie as tie
 
@@ -45,7 +46,7 @@ put-requires c κs =
 returns : tie.Need-returns
 returns c =
     let a = c .before .before .before .before .before .before .args in
-    answers-refusal _ _ (a .buffer .now) _
+    answers-refusal refusalAnswer _ _ (a .buffer .now) _
     (refused-by-verdict (a .q) (length (a .buffer .now)) (judged-refusal (verdict (a .q)) (c .before .before .before .before .verdict-of .ensures) (c .before .before .verdict .given .1))) (c .refusal-answer .ensures)
 
 same-length : tie.Need-same-length

@@ -7,14 +7,14 @@ use lib.ListN.{length}
 use Rattle.questions.specs.Buffers.{over}
 use Rattle.lines.specs.Texts.{longest}
 use Rattle.certificate.specs.Keys.{certificateFields}
-use Rattle.certificate.proofs.Laws.{longest-certificate}
+use Rattle.certificate.proofs.Laws.{longest-certificate, refusal-numbered}
 use Rattle.questions.specs.declared.Answer.{Answer}
 use Rattle.questions.specs.Outcomes.{Outcome, answerOf, bufferAfter}
 use Rattle.certificate.specs.declared.Refusal.{Refusal}
 use Rattle.certificate.specs.Refusals.{refusalAnswer}
 use Rattle.certificate.specs.Outcome.{outcome}
 use Rattle.report.specs.Printed.{refusalLines, certifyPrints}
-use Rattle.report.proofs.Answers.{certificate-printed, refusal-printed}
+use Rattle.report.proofs.Answers.{text-printed, refusal-printed}
 use Rattle.report.proofs.printing.certify_prints.Statement.{statement}
 use Rattle.report.proofs.printing.certify_prints.Tie as tie
 
@@ -53,7 +53,7 @@ unfolding certifyPrints
 returns c =
     let w = c .before .before .before .before in
     let put = c .put-refusal .ensures in
-    let h = refusal-printed (o w) (B w) (λ e. c .before .before .if1 .taken (ap (λ (a : Answer). a .refusal) (answered w) ∙ e)) in
+    let h = refusal-printed refusalAnswer refusal-numbered (o w) (B w) (λ e. c .before .before .if1 .taken (ap (λ (a : Answer). a .refusal) (answered w) ∙ e)) in
     let lines : refusalLines (w .write .result) ≡ certifyPrints (S w) = ap refusalLines (answered w) ∙ h .0 in (
       put .0 ∙ ap length lines,
       (put .1 ∙ ap (λ (l : List ℕ). over l (w .write .last .1 .0)) lines ∙ ap (over (certifyPrints (S w))) (left w ∙ h .1), search needs),
@@ -63,7 +63,7 @@ returns-2 : tie.Need-returns-2
 unfolding certifyPrints
 returns-2 c =
     let w = c .before .before in
-    let h = certificate-printed (o w) (B w) (sym (ap (λ (a : Answer). a .refusal) (answered w)) ∙ c .if1 .left) in
+    let h = text-printed refusalAnswer refusal-numbered (o w) (B w) (sym (ap (λ (a : Answer). a .refusal) (answered w)) ∙ c .if1 .left) in
     (ap (λ (a : Answer). a .length) (answered w) ∙ h .0, (left w ∙ h .1, search needs))
 
 pub certify-prints-spec : {M : Type 1} → statement M

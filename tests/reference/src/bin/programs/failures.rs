@@ -1,7 +1,7 @@
 //! Input that cannot be read and output that cannot be written. A read that
 //! fails is not the end of the input.
 
-use crate::run::{ended, fed, from_file, Program, Tally, AT_ONCE};
+use crate::run::{ended, fed, from_file, shown, Program, Tally, AT_ONCE};
 use reference::named::SHEET_B;
 use std::fs::File;
 use std::io::{self, Write};
@@ -50,7 +50,7 @@ pub fn unwritable(program: &Program, tally: &mut Tally) {
             ("a full disk", full_disk(program).and_then(run)),
             ("closed standard output", run(program.redirected(">&-"))),
         ] {
-            let what = format!("{what}, the text {text:?}");
+            let what = format!("{what}, the text {}", shown(text.as_bytes()));
             tally.hold(program, &what, seen, ("", &line));
         }
     }

@@ -7,8 +7,8 @@ use std::io::{self, ErrorKind, Write};
 use std::path::{Path, PathBuf};
 use std::process::{Child, ChildStdin, Command, ExitCode, Output, Stdio};
 use std::sync::mpsc::{self, RecvTimeoutError};
-use std::thread;
 use std::time::Duration;
+use std::{iter, thread};
 
 /// A program that has not ended by then is ended.
 const LIMIT: Duration = Duration::from_secs(10);
@@ -29,6 +29,8 @@ pub struct Program {
     pub takes: fn(Sheet) -> String,
     /// What the reference says that it prints, for a text of any length.
     pub prints: fn(&[u8]) -> String,
+    /// The texts that only this one is given.
+    pub own: fn() -> Vec<Text>,
 }
 
 impl Program {
@@ -51,11 +53,23 @@ fn piped(mut command: Command) -> Command {
 }
 
 /// Gives the text through a pipe, in pieces of so many bytes.
-pub fn fed(mut command: Command, text: &[u8], piece: usize) -> io::Result<Output> {
+pub fn fed(command: Command, text: &[u8], piece: usize) -> io::Result<Output> {
+    fed_pieces(command, text.chunks(piece))
+}
+
+/// Gives the text over and over, and no end.
+pub fn fed_endlessly(command: Command, text: &[u8]) -> io::Result<Output> {
+    fed_pieces(command, iter::repeat(text))
+}
+
+fn fed_pieces<'a>(
+    mut command: Command,
+    pieces: impl Iterator<Item = &'a [u8]> + Send,
+) -> io::Result<Output> {
     let mut child = command.stdin(Stdio::piped()).spawn()?;
     let input = child.stdin.take().expect("a pipe");
     thread::scope(|scope| {
-        let feeding = scope.spawn(|| feed(input, text, piece));
+        let feeding = scope.spawn(|| feed(input, pieces));
         let output = ended(child);
         feeding.join().expect("a thread")?;
         output
@@ -63,8 +77,8 @@ pub fn fed(mut command: Command, text: &[u8], piece: usize) -> io::Result<Output
 }
 
 /// A program that has read enough may close its end.
-fn feed(mut input: ChildStdin, text: &[u8], piece: usize) -> io::Result<()> {
-    for (i, bytes) in text.chunks(piece).enumerate() {
+fn feed<'a>(mut input: ChildStdin, pieces: impl Iterator<Item = &'a [u8]>) -> io::Result<()> {
+    for (i, bytes) in pieces.enumerate() {
         if i > 0 {
             thread::sleep(PAUSE);
         }
@@ -143,7 +157,7 @@ impl Tally {
     pub fn report(self) -> ExitCode {
         let Tally { runs, faults } = self;
         if faults.is_empty() {
-            println!("programs: {runs} runs of certify and verify, as the reference says");
+            println!("programs: {runs} runs of certify, verify and survey, as the reference says");
             return ExitCode::SUCCESS;
         }
         for fault in &faults {
@@ -177,7 +191,7 @@ fn difference(seen: &Output, stdout: &str, stderr: &str) -> Option<String> {
 }
 
 /// Bytes for a report, not too many.
-fn shown(bytes: &[u8]) -> String {
+pub fn shown(bytes: &[u8]) -> String {
     let first = &bytes[..bytes.len().min(300)];
     let rest = bytes.len() - first.len();
     let more = match rest {

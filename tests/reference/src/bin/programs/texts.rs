@@ -1,5 +1,6 @@
 //! The texts that the programs are given.
 
+use crate::run::AT_ONCE;
 use reference::cases::{
     certificate_of, certificates, each_line_changed, longest_certificate, longest_sheet, sheets,
     text_of,
@@ -21,11 +22,21 @@ const RANDOM: usize = 100;
 pub struct Text {
     pub name: String,
     pub bytes: Vec<u8>,
+    /// It comes in pieces of so many bytes.
+    pub piece: usize,
 }
 
-fn text(name: impl Into<String>, bytes: impl Into<Vec<u8>>) -> Text {
-    let (name, bytes) = (name.into(), bytes.into());
-    Text { name, bytes }
+pub fn text(name: impl Into<String>, bytes: impl Into<Vec<u8>>) -> Text {
+    let (name, bytes, piece) = (name.into(), bytes.into(), AT_ONCE);
+    Text { name, bytes, piece }
+}
+
+/// A text that comes slowly.
+pub fn in_pieces(name: &str, bytes: impl Into<Vec<u8>>, piece: usize) -> Text {
+    Text {
+        piece,
+        ..text(format!("{name}, in pieces of {piece}"), bytes)
+    }
 }
 
 pub fn all() -> Vec<Text> {
@@ -36,6 +47,7 @@ pub fn all() -> Vec<Text> {
     texts.extend(near_longest());
     texts.extend(filled());
     texts.extend(longer());
+    texts.extend(slow());
     texts
 }
 
@@ -156,21 +168,34 @@ fn longer() -> Vec<Text> {
     texts
 }
 
-/// Texts that come in pieces, and the length of a piece.
-pub fn slow() -> Vec<(Text, usize)> {
+/// Texts that come in pieces.
+fn slow() -> Vec<Text> {
     let mut texts = Vec::new();
     for (name, right) in right() {
         for (times, piece) in [(1, 1), (1, 50), (2, 70)] {
-            let name = format!("{name}, {times} times, in pieces of {piece}");
-            texts.push((text(name, right.repeat(times)), piece));
+            let name = format!("{name}, {times} times");
+            texts.push(in_pieces(&name, right.repeat(times), piece));
         }
     }
     texts
 }
 
+/// Texts that come over and over; what is printed no longer changes.
+pub fn endless() -> [Text; 2] {
+    let sheet = text_of(SHEET_A);
+    [("newlines", "\n"), ("sheets", &sheet)]
+        .map(|(name, piece)| text(format!("{name} without end"), piece.repeat(20_000)))
+}
+
 /// The files of examples/ that are texts.
-pub fn examples() -> [PathBuf; 4] {
-    let names = ["sheet_a.txt", "sheet_b.txt", "z_section.txt", "output.txt"];
+pub fn examples() -> [PathBuf; 5] {
+    let names = [
+        "sheet_a.txt",
+        "sheet_b.txt",
+        "z_section.txt",
+        "catalogue.txt",
+        "output.txt",
+    ];
     names.map(|name| in_repository("examples").join(name))
 }
 

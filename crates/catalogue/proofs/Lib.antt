@@ -1,0 +1,14 @@
+pub mod SheetLaws
+pub mod LineCounts
+pub mod EntryLaws
+pub mod EntryLoop
+pub mod ReportLaws
+pub mod OutcomeLaws
+pub mod RowPlaces
+pub mod CountSums
+pub mod ReportLengths
+pub mod Spellings
+pub mod Cut
+pub mod Answers
+pub mod Promises
+pub mod Laws

@@ -1,0 +1,5 @@
+pub mod Catalogues
+pub mod Refusals
+pub mod Outcome
+pub mod Promises
+pub mod Forms
