@@ -109,7 +109,7 @@ hm_answer hm_certificate_from_numbers(uint64_t form, uint64_t h, uint64_t b1, ui
  * twelve lines is one sheet, and a shorter rest one that is cut short. One number to a line, the report has the
  * number of sheets, of those accepted, of those under each refusal from 2 to 11, the sum of the accepted ones' areas
  * and that of their axial resistances; then a line for each accepted sheet, in the catalogue's order: its place from
- * 1, its area and its axial resistance, one blank between.
+ * 1, its area and its axial resistance, one blank between. The call takes some 25 KB of stack.
  */
 hm_answer hm_catalogue_report(const uint8_t *sheets, size_t sheets_len, uint8_t *buffer, size_t buffer_len);
 

@@ -4,13 +4,15 @@ use mathlib.Core.Bool.{Bool, false, cond}
 use mathlib.Core.List.{List, [], _∷_, _++_, append-nil}
 use mathlib.Core.Path.{_≡_, refl, sym, ap, _∙_}
 use native.Mathlib.Omega.{arith}
+use borrow.Author.Tests.{eqb-true, eqb-false}
 use lib.Dec.{eqb}
 use lib.ListN.{length}
+use Rattle.pair.proofs.Numbers.{by-test}
 use Rattle.lines.specs.Splitting.{newlines, unended}
 use Rattle.lines.proofs.Laws.{newlines-append, unended-none, unended-append, unended-most}
 use Rattle.catalogue.specs.declared.counting.LineCount.{LineCount}
 use Rattle.catalogue.specs.Catalogues.{mostSheets, sheetsIn}
-use Rattle.catalogue.specs.Forms.{newlinesEnough, lineCount, sheetsCounted}
+use Rattle.catalogue.specs.Forms.{newlinesEnough, lineCount, countedOn, sheetsCounted}
 use Rattle.catalogue.proofs.SheetLaws.{sheets-count}
 
 -- a count as the code holds it
@@ -23,6 +25,10 @@ none-counted =
     let none : newlines [] ≡ 0 = omega (arith, newlines-append [] []) in
     sym (ap (λ (n : ℕ). counting (min n newlinesEnough) (eqb (unended []) 1)) none ∙ ap (λ (n : ℕ). counting 0 (eqb n 1)) unended-none)
 
+some-bytes : (l : List ℕ) → (length l ≡ 0 → ⊥) → 0 < length l
+some-bytes [] n = absurd (n refl)
+some-bytes (b ∷ l) n = omega arith
+
 -- A part more behind the bytes s.
 module _ (s part : List ℕ) where
   newlines-on : min (min (newlines s) newlinesEnough + newlines part) newlinesEnough ≡ min (newlines (s ++ part)) newlinesEnough
@@ -33,20 +39,18 @@ module _ (s part : List ℕ) where
   unended-on (b ∷ l) e h = absurd (omega arith)
 
   -- it is empty, or it has bytes
-  pub counted-none : (c : LineCount) (n : ℕ) → c ≡ lineCount s → n ≡ min (c .newlines + newlines part) newlinesEnough → length part ≡ 0
-      → counting n (c .unended) ≡ lineCount (s ++ part)
-  unfolding lineCount
-  counted-none c n e h z =
-      ap (λ (k : ℕ). counting k (c .unended)) (h ∙ ap (λ (x : LineCount). min (x .newlines + newlines part) newlinesEnough) e ∙ newlines-on)
-      ∙ ap (λ (x : LineCount). counting (min (newlines (s ++ part)) newlinesEnough) (x .unended)) e
-      ∙ ap (λ (u : ℕ). counting (min (newlines (s ++ part)) newlinesEnough) (eqb u 1)) (sym (unended-on part refl z))
+  unended-then : cond (eqb (length part) 0) (eqb (unended s) 1) (eqb (unended part) 1) ≡ eqb (unended (s ++ part)) 1
+  unended-then =
+      by-test (eqb (length part) 0) (λ b. cond b (eqb (unended s) 1) (eqb (unended part) 1) ≡ eqb (unended (s ++ part)) 1)
+      (λ e. ap (λ (u : ℕ). eqb u 1) (sym (unended-on part refl (eqb-true (length part) 0 e))))
+      (λ e. ap (λ (u : ℕ). eqb u 1) (sym (unended-append s part (some-bytes part (eqb-false (length part) 0 e)))))
 
-  pub counted-on : (c : LineCount) (n u : ℕ) → c ≡ lineCount s → n ≡ min (c .newlines + newlines part) newlinesEnough → u ≡ unended part → 0 < length part
-      → counting n (eqb u 1) ≡ lineCount (s ++ part)
-  unfolding lineCount
-  counted-on c n u e h g z =
-      ap (λ (k : ℕ). counting k (eqb u 1)) (h ∙ ap (λ (x : LineCount). min (x .newlines + newlines part) newlinesEnough) e ∙ newlines-on)
-      ∙ ap (λ (k : ℕ). counting (min (newlines (s ++ part)) newlinesEnough) (eqb k 1)) (g ∙ sym (unended-append s part z))
+  pub counted-behind : (c : LineCount) → c ≡ lineCount s → countedOn c part ≡ lineCount (s ++ part)
+  unfolding lineCount countedOn
+  counted-behind c e =
+      ap (λ (x : LineCount). countedOn x part) e
+      ∙ ap (λ (n : ℕ). counting n (cond (eqb (length part) 0) (eqb (unended s) 1) (eqb (unended part) 1))) newlines-on
+      ∙ ap (counting (min (newlines (s ++ part)) newlinesEnough)) unended-then
 
 -- The sheets that are counted: exact where there are not too many.
 rest-counted : (u : ℕ) → u ≤ 1 → cond (eqb u 1) 1 0 ≡ u

@@ -38,6 +38,11 @@ newlinesEnough = mostSheets * sheetLines + 1
 unfoldable pub lineCount : List ℕ → LineCount
 lineCount s = record { newlines = min (newlines s) newlinesEnough; unended = eqb (unended s) 1 }
 
+-- those of the bytes that c counts and of a part behind them
+unfoldable pub countedOn : LineCount → List ℕ → LineCount
+countedOn c part =
+    record { newlines = min (c .newlines + newlines part) newlinesEnough; unended = cond (eqb (length part) 0) (c .unended) (eqb (unended part) 1) }
+
 -- the sheets that so many lines make, exact up to one more than a catalogue may have
 unfoldable pub sheetsCounted : LineCount → ℕ
 sheetsCounted c = (min (c .newlines) newlinesEnough + cond (c .unended) 1 0 + (sheetLines - 1)) / sheetLines

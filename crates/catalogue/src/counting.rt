@@ -3,10 +3,10 @@ use crate::MOST_LINES;
 use lines::splitting;
 use section::SHEET_LINES;
 ghost use mathlib.Core.Path.{_≡_};
-ghost use mathlib.Core.List.{List, [], _++_};
+ghost use mathlib.Core.List.{[]};
 ghost use mathlib.Core.Bool.{cond};
-ghost use Prim.Native.Nat.{ℕ, _+_, _≤_, min};
-ghost use Rattle.catalogue.specs.Forms.{newlinesEnough, lineCount, sheetsCounted};
+ghost use Prim.Native.Nat.{_+_, _≤_, min};
+ghost use Rattle.catalogue.specs.Forms.{newlinesEnough, lineCount, countedOn, sheetsCounted};
 
 // The lines of some bytes: newlines, counted up to one more than a full catalogue has, and whether
 // bytes stand behind the last.
@@ -38,9 +38,10 @@ fn newlines_with(n: usize, more: usize) -> usize
     n + more
 }
 
-// The lines of the bytes counted so far and of this part behind them.
+// The lines of the bytes counted so far and of this part behind them (`counted-behind` in
+// proofs/LineCounts).
 pub fn count_on(counted: LineCount, part: &[u8]) -> LineCount
-    ensures { λ r. ⌜ ((s : List ℕ) → counted ≡ lineCount s → r ≡ lineCount (s ++ now (part .entry))) ⌝ }
+    ensures { λ r. ⌜ r ≡ countedOn counted (now (part .entry)) ⌝ }
 {
     let newlines = newlines_with(counted.newlines, splitting::newline_count(part));
     if part.len() == 0 {

@@ -11,7 +11,7 @@ use Rattle.catalogue.specs.Catalogues.{sheetsIn}
 use Rattle.catalogue.specs.Refusals.{reportAnswer}
 use Rattle.catalogue.specs.Outcome.{reportOutcome}
 use Rattle.catalogue.specs.Forms.{lineCount, sheetsCounted}
-use Rattle.catalogue.proofs.LineCounts.{counted-exactly, counted-over}
+use Rattle.catalogue.proofs.LineCounts.{counted-behind, counted-exactly, counted-over}
 use Rattle.catalogue.proofs.OutcomeLaws.{outcome-14}
 use Rattle.catalogue.proofs.reports.report.Statement.{statement}
 use Rattle.catalogue.proofs.reports.report.Tie as tie
@@ -40,7 +40,7 @@ module _ (c : tie.After-sheet-count) where
   B = start .args .buffer .now
 
   n-is : c .sheet-count .result ≡ sheetsCounted (lineCount S)
-  n-is = c .sheet-count .ensures ∙ ap sheetsCounted (c .before .count-on .ensures [] (c .before .before .no-lines .ensures))
+  n-is = c .sheet-count .ensures ∙ ap sheetsCounted (c .before .count-on .ensures ∙ counted-behind [] S _ (c .before .before .no-lines .ensures))
 
 returns : tie.Need-returns
 unfolding reportOutcome

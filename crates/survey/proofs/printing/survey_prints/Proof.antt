@@ -15,9 +15,8 @@ use Rattle.catalogue.specs.declared.ReportRefusal.the-variants.{SheetCount, Mis
 use Rattle.catalogue.specs.Catalogues.{longestReport}
 use Rattle.catalogue.specs.Refusals.{reportAnswer}
 use Rattle.catalogue.specs.Outcome.{reportOutcome}
-use Rattle.survey.specs.Printed.{surveyPrints}
-use Rattle.survey.specs.Inputs.{Read}
-use Rattle.survey.proofs.Kept.{too-many, kept-enough}
+use Rattle.survey.specs.Printed.{surveyPrints, keptPrints}
+use Rattle.survey.proofs.Promises.{too-many, not-too-many}
 use Rattle.survey.proofs.printing.survey_prints.Statement.{statement}
 use Rattle.survey.proofs.printing.survey_prints.Tie as tie
 
@@ -35,15 +34,15 @@ module _ (c : tie.After-report-answer) where
   abbrev begun : tie.Start
   begun = c .before .before .before .before
 
-  refusal-lines : (s : List ℕ) → Read s (begun .args .kept .now) (begun .args .lines) → refusalLines (c .report-answer .result) ≡ surveyPrints s
-  refusal-lines s read = ap refusalLines (c .report-answer .ensures) ∙ too-many read (omega arith)
+  refusal-lines : refusalLines (c .report-answer .result) ≡ keptPrints (begun .args .kept .now) (begun .args .lines)
+  refusal-lines = ap refusalLines (c .report-answer .ensures) ∙ sym (too-many (begun .args .kept .now) (begun .args .lines) (omega arith))
 
 returns : tie.Need-returns
 returns c =
     let a = c .before .before in
     let put = c .put-refusal .ensures in (
-      λ s read. put .0 ∙ ap length (refusal-lines a s read),
-      (λ s read. put .1 ∙ ap (λ (l : List ℕ). over l (begun a .args .out .now)) (refusal-lines a s read), search needs),
+      put .0 ∙ ap length (refusal-lines a),
+      (put .1 ∙ ap (λ (l : List ℕ). over l (begun a .args .out .now)) (refusal-lines a), search needs),
     )
 
 report-requires : tie.Need-report-requires
@@ -80,34 +79,31 @@ module _ (c : tie.After-report) where
   left : c .report .last .1 .0 ≡ bufferAfter o B
   left = c .report .ensures .1 ∙ ap (λ (n : ℕ). bufferAfter (reportOutcome K n) B) room
 
-  abbrev ReadOf : List ℕ → Type 0
-  ReadOf s = Read s K (start .args .lines)
-
-  printed : (s : List ℕ) → ReadOf s → outcomePrints reportAnswer o ≡ surveyPrints s
+  printed : outcomePrints reportAnswer o ≡ keptPrints K (start .args .lines)
   unfolding surveyPrints
-  printed s read = kept-enough read (omega arith)
+  printed = sym (not-too-many K (start .args .lines) (omega arith))
 
   refused-so : ((c .report .result) .refusal ≡ 0 → ⊥) → (refusalLines (answerOf reportAnswer o) ≡ outcomePrints reportAnswer o) × (bufferAfter o B ≡ B)
   refused-so n = refusal-printed reportAnswer report-numbered o B (λ e. n (ap (λ (a : Answer). a .refusal) answered ∙ e))
 
-  answer-lines : ((c .report .result) .refusal ≡ 0 → ⊥) → (s : List ℕ) → ReadOf s → refusalLines (c .report .result) ≡ surveyPrints s
-  answer-lines n s read = ap refusalLines answered ∙ refused-so n .0 ∙ printed s read
+  answer-lines : ((c .report .result) .refusal ≡ 0 → ⊥) → refusalLines (c .report .result) ≡ keptPrints K (start .args .lines)
+  answer-lines n = ap refusalLines answered ∙ refused-so n .0 ∙ printed
 
 returns-2 : tie.Need-returns-2
 returns-2 c =
     let w = c .before .before .before .before in
     let n = c .before .before .if2 .taken in
     let put = c .put-refusal2 .ensures in (
-      λ s read. put .0 ∙ ap length (answer-lines w n s read),
-      (λ s read. put .1 ∙ ap₂ over (answer-lines w n s read) (left w ∙ refused-so w n .1), search needs),
+      put .0 ∙ ap length (answer-lines w n),
+      (put .1 ∙ ap₂ over (answer-lines w n) (left w ∙ refused-so w n .1), search needs),
     )
 
 returns-3 : tie.Need-returns-3
 returns-3 c =
     let w = c .before .before in
     let h = text-printed reportAnswer report-numbered (o w) (B w) (sym (ap (λ (a : Answer). a .refusal) (answered w)) ∙ c .if2 .left) in (
-      λ s read. ap (λ (a : Answer). a .length) (answered w) ∙ h .0 ∙ ap length (printed w s read),
-      (λ s read. left w ∙ h .1 ∙ ap (λ (l : List ℕ). over l (B w)) (printed w s read), search needs),
+      ap (λ (a : Answer). a .length) (answered w) ∙ h .0 ∙ ap length (printed w),
+      (left w ∙ h .1 ∙ ap (λ (l : List ℕ). over l (B w)) (printed w), search needs),
     )
 
 pub survey-prints-spec : {M : Type 1} → statement M

@@ -1,8 +1,10 @@
 -- `reading::count_all` meets its contract.
 use borrow.Author.Needs.{needs}
 use mathlib.Core.List.{[]}
+use mathlib.Core.Path.{_∙_}
 use native.Mathlib.Omega.{arith}
 use Rattle.certificate.proofs.Laws.{longest-sheet}
+use Rattle.catalogue.proofs.Laws.{counted-behind}
 use Rattle.survey.specs.Inputs.{InputOf}
 use Rattle.survey.proofs.Kept.{all-kept}
 use Rattle.survey.proofs.reading.count_all.Statement.{statement}
@@ -16,7 +18,7 @@ count-on-requires c κs = search needs
 
 -- the kept bytes are an input
 begun : (c : tie.After-count-on) → InputOf (c .before .before .before .args .kept .now) (c .count-on .result)
-begun c = let start = c .before .before .before in all-kept (start .args .kept .now) (c .count-on .result) (start .pre) (c .count-on .ensures [] (c .before .no-lines .ensures))
+begun c = let start = c .before .before .before in all-kept (start .args .kept .now) (c .count-on .result) (start .pre) (c .count-on .ensures ∙ counted-behind [] (start .args .kept .now) _ (c .before .no-lines .ensures))
 
 returns : tie.Need-returns
 returns c = begun (c .before)

@@ -2,8 +2,9 @@
 use borrow.Author.Needs.{needs}
 use Prim.Native.Nat.{ℕ}
 use mathlib.Core.List.{List}
-use mathlib.Core.Path.{_≡_}
+use mathlib.Core.Path.{_≡_, _∙_}
 use lib.ListN.{length}
+use Rattle.catalogue.proofs.Laws.{counted-behind}
 use Rattle.survey.specs.Inputs.{mostKept, InputOf}
 use Rattle.survey.proofs.Kept.{read-on}
 use Rattle.survey.proofs.reading.count_rest.Statement.{statement}
@@ -64,7 +65,7 @@ loop-less c = search needs
 loop-again : tie.Need-loop-again Inv-loop μ-loop
 loop-again c =
     let head = c .before .before .before .before .before .before .before .before .before .before .before .before .before in
-    (search needs, λ kept h i. read-on kept _ (head .loop .lines) (c .count-on .result) h (head .loop .inv .1 kept h i) (c .count-on .ensures))
+    (search needs, λ kept h i. read-on kept _ (head .loop .lines) (c .count-on .result) h (head .loop .inv .1 kept h i) (λ s e. c .count-on .ensures ∙ counted-behind s _ _ e))
 
 returns-4 : tie.Need-returns-4 Inv-loop μ-loop
 returns-4 c = λ kept h i. tt
