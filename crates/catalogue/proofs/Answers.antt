@@ -1,12 +1,12 @@
 -- What is answered to a catalogue, both ways: a report, or 14, 15 and 12, each exactly in its case and in that order.
-use Prim.Native.Nat.{ℕ, suc, _≤_, _<_}
+use Prim.Native.Nat.{ℕ, _≤_, _<_}
 use mathlib.Core.List.{List, []}
 use mathlib.Core.Logic.{_⊎_, inl, inr, ⊎-elim, _↔_}
 use mathlib.Core.Path.{_≡_, refl, sym, ap, _∙_, subst}
 use native.Mathlib.Omega.{arith}
 use borrow.Author.Tests.{leb-true, leb-false}
 use lib.Dec.{leb}
-use lib.ListN.{length, getD}
+use lib.ListN.{length}
 use Rattle.pair.proofs.Numbers.{by-test}
 use Rattle.questions.specs.declared.Answer.{Answer}
 use Rattle.questions.specs.Answers.{answer}
@@ -20,8 +20,8 @@ use Rattle.catalogue.specs.declared.ReportRefusal.the-variants.{SheetCou
 use Rattle.catalogue.specs.Catalogues.{mostSheets, rowsFrom, reportOf, longestReport}
 use Rattle.catalogue.specs.Refusals.{reportAnswer}
 use Rattle.catalogue.specs.Outcome.{question15, outcomeOn}
-use Rattle.catalogue.specs.Promises.{Countable, Uncountable, Spelt, AllSpelt, FirstUnspelt, TooLong, Reports, Reported}
-use Rattle.catalogue.proofs.Spellings.{not-one, at-index, all-spelt, FirstAt, first-found, first-told}
+use Rattle.catalogue.specs.Promises.{Countable, Uncountable, AllSpelt, FirstAt, FirstUnspelt, TooLong, Reports, Reported}
+use Rattle.catalogue.proofs.Spellings.{all-spelt, none-misspelt, first-found, first-told}
 use Rattle.catalogue.proofs.OutcomeLaws.{outcome-14, outcome-15, outcome-fitted}
 use Rattle.catalogue.proofs.RowPlaces.{each-once, no-other}
 use Rattle.catalogue.proofs.CountSums.{adds-up}
@@ -91,7 +91,7 @@ module _ (ps : List (List ℕ)) (room : ℕ) where
     text = refl;
     each-once = each-once ps;
     no-other = no-other ps;
-    adds-up = adds-up ps (λ i inside. not-one (getD ps i []) (subst Spelt (at-index ps i) (s .each (suc i) (omega arith, omega arith))));
+    adds-up = adds-up ps (none-misspelt ps s);
   }
 
   -- By cases: written, or refused.
@@ -121,9 +121,7 @@ module _ (ps : List (List ℕ)) (room : ℕ) where
       inr (inl (record {
         countable = h;
         place = place;
-        within = f .within;
-        before = f .before;
-        here = f .here;
+        first = f;
         reported = sym e ∙ refused-answer (leads (unspelt h place f));
       }))
   refused-case a (too-long-for h s l) e g =
@@ -140,7 +138,7 @@ module _ (ps : List (List ℕ)) (room : ℕ) where
     ⊎-elim
         (λ u. refuses-as (leads (uncounted (u .count))) (u .reported) (omega arith))
         (⊎-elim
-        (λ u. refuses-as (leads (unspelt (u .countable) (u .place) (record { within = u .within; before = u .before; here = u .here }))) (u .reported) (omega arith))
+        (λ u. refuses-as (leads (unspelt (u .countable) (u .place) (u .first))) (u .reported) (omega arith))
         (λ u. refuses-as (leads (too-long-for (u .countable) (u .spelt) (u .long))) (u .reported) (omega arith))),
   )
 

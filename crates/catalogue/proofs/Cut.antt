@@ -1,7 +1,7 @@
 -- Input cut behind the bytes that a full catalogue can have: the first sheet that fails the first question is the same.
 use Prim.Native.Nat.{ℕ, zero, suc, _+_, _-_, _*_, _≤_, _<_}
-use mathlib.Core.List.{List, [], _∷_, _++_, map}
-use mathlib.Core.Path.{_≡_, sym, ap, _∙_, subst}
+use mathlib.Core.List.{List, [], _∷_, _++_}
+use mathlib.Core.Path.{_≡_, sym, ap, _∙_}
 use native.Mathlib.Omega.{arith}
 use borrow.Author.Tests.{leb-true, leb-false, eqb-true, eqb-false}
 use lib.Dec.{leb, eqb}
@@ -9,9 +9,9 @@ use lib.ListN.{length, getD, take, drop, length-append, length-take, take-append
 use native.Mathlib.Nat.{suc-mul}
 use lib.Seq.{take-all, take-append-le, take-append-add}
 use Rattle.pair.proofs.Numbers.{by-test}
-use Rattle.questions.specs.Asking.{askedFrom, Finding, refusal, firstOf}
+use Rattle.questions.specs.Asking.{refusal}
 use Rattle.questions.specs.Outcomes.{answerOf}
-use Rattle.questions.proofs.Laws.{asked-fails, asked-passes, none-asked, met-not-refused}
+use Rattle.questions.proofs.Laws.{met-not-refused}
 use Rattle.lines.specs.Splitting.{splitLines, joined}
 use Rattle.lines.specs.Texts.{longest}
 use Rattle.lines.proofs.Laws.{split-count, split-front, split-most}
@@ -22,11 +22,11 @@ use Rattle.certificate.proofs.Laws.{cut-sheet, meets-first, sheet-ended, sheet-
 use Rattle.catalogue.specs.declared.ReportRefusal.{ReportRefusal}
 use Rattle.catalogue.specs.declared.ReportRefusal.the-variants.{Misspelt}
 use Rattle.catalogue.specs.Catalogues.{mostSheets, sheetsIn, certified, numberOf}
-use Rattle.catalogue.specs.Outcome.{spelt, question15, outcomeOn, reportOutcome}
-use Rattle.catalogue.specs.Promises.{WholeSheet, SheetsOf, Spelt, AllSpelt}
+use Rattle.catalogue.specs.Outcome.{question15, outcomeOn, reportOutcome}
+use Rattle.catalogue.specs.Promises.{WholeSheet, SheetsOf, AllSpelt}
 use Rattle.catalogue.proofs.SheetLaws.{firstSheet, rest, first-then, lines-in-first, first-whole, whole-first, alone-first, sheets-next, sheets-whole, sheets-count, sheets-unique}
-use Rattle.catalogue.proofs.EntryLaws.{spelt-test, unspelt-test}
-use Rattle.catalogue.proofs.Spellings.{not-one, at-index}
+use Rattle.catalogue.proofs.EntryLaws.{found, fails-here, passes-here, none-found}
+use Rattle.catalogue.proofs.Spellings.{none-misspelt}
 use Rattle.catalogue.proofs.OutcomeLaws.{outcome-15}
 
 abbrev longestSheet : ℕ
@@ -52,24 +52,12 @@ whole-pieces (p ∷ []) h = let w = right-whole p (h 0 (omega arith)) in (omega 
 whole-pieces (p ∷ q ∷ ps) h = (right-whole p (h 0 (omega arith)), whole-pieces (q ∷ ps) (λ i inside. h (suc i) (omega arith)))
 
 pub sheets-of-spelt : (ps : List (List ℕ)) → AllSpelt ps → sheetsIn (joined ps) ≡ ps
-sheets-of-spelt ps s = sheets-unique ps (whole-pieces ps (λ i inside. not-one (getD ps i []) (subst Spelt (at-index ps i) (s .each (suc i) (omega arith, omega arith)))))
+sheets-of-spelt ps s = sheets-unique ps (whole-pieces ps (none-misspelt ps s))
 
 -- a cut sheet has the same number
 cut-number : (p : List ℕ) (m : ℕ) → longestSheet < m → numberOf (take m p) ≡ numberOf p
 unfolding numberOf certified
 cut-number p m h = ap (λ o. (answerOf refusalAnswer o) .refusal) (cut-sheet p m (longest certificateFields) h)
-
--- what is found of sheets, the first being at this place
-abbrev found : ℕ → List (List ℕ) → Finding ReportRefusal
-found place ps = firstOf (askedFrom Misspelt place (map spelt ps))
-
--- the first sheet fails, or passes on to those behind
-module _ (place : ℕ) {ps qs : List (List ℕ)} {p : List ℕ} (e : ps ≡ p ∷ qs) where
-  fails-here : numberOf p ≡ 1 → found place ps ≡ refusal (Misspelt place)
-  fails-here n = asked-fails Misspelt place (ap (map spelt) e) (unspelt-test p n)
-
-  passes-here : (numberOf p ≡ 1 → ⊥) → found place ps ≡ found (place + 1) qs
-  passes-here n = asked-passes Misspelt place (ap (map spelt) e) (spelt-test p n)
 
 -- bytes cut behind their first part
 cut-behind-first : (p t : List ℕ) {s : List ℕ} (m : ℕ) → length p ≤ m → s ≡ p ++ t → take m s ≡ p ++ take (m - length p) t
@@ -173,7 +161,7 @@ cut-fewer s m =
 
 -- sheets of which one is refused are there
 some-found : (ps : List (List ℕ)) (r : ReportRefusal) → found 1 ps ≡ refusal r → 1 ≤ length ps
-some-found [] r e = absurd (met-not-refused (sym e ∙ none-asked Misspelt 1))
+some-found [] r e = absurd (met-not-refused (sym e ∙ none-found 1))
 some-found (p ∷ ps) r e = omega arith
 
 -- So the answer stays where the sheets are not too many.

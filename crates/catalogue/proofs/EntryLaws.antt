@@ -8,12 +8,12 @@ use native.Mathlib.Nat.{zero-add}
 use native.Mathlib.Omega.{arith}
 use borrow.Author.Tests.{eq-eqb, ne-eqb}
 use lib.Dec.{eqb}
-use lib.ListN.{length, getD, drop, set, length-append}
+use lib.ListN.{length, getD, set, length-append}
 use Rattle.pair.proofs.Numbers.{by-test}
 use Rattle.questions.specs.Claims.{test}
-use Rattle.questions.specs.Asking.{Asked, askedFrom, refusal}
+use Rattle.questions.specs.Asking.{askedFrom, Finding, refusal, met, firstOf}
 use Rattle.questions.specs.Outcomes.{Outcome, refused, written, answerOf}
-use Rattle.questions.proofs.Laws.{holds-test, fails-test}
+use Rattle.questions.proofs.Laws.{holds-test, fails-test, asked-fails, asked-passes, none-asked}
 use Rattle.lines.specs.Splitting.{joined}
 use Rattle.lines.specs.Texts.{longest}
 use Rattle.lines.proofs.Laws.{joined-none, joined-one, joined-append, AllLong}
@@ -160,17 +160,29 @@ entries-most place (p ∷ ps) =
       entries-most (place + 1) ps,
     )
 
--- Whether sheet i, and those behind it, meet the first question.
-abbrev pub spellingsFrom : List (List ℕ) → ℕ → List (Asked ReportRefusal)
-spellingsFrom ps i = askedFrom Misspelt (1 + i) (map spelt (drop i ps))
-
+-- Whether sheets meet the first question.
 pub spelt-holds : (n : ℕ) → (n ≡ 1 → ⊥) → (n ≡ 0) ⊎ (2 ≤ n)
 spelt-holds zero other = inl refl
 spelt-holds (suc zero) other = absurd (other refl)
 spelt-holds (suc (suc n)) other = inr (omega arith)
 
-pub spelt-test : (p : List ℕ) → (numberOf p ≡ 1 → ⊥) → test (spelt p) ≡ true
+spelt-test : (p : List ℕ) → (numberOf p ≡ 1 → ⊥) → test (spelt p) ≡ true
 spelt-test p n = holds-test (spelt p) (spelt-holds (numberOf p) n)
 
-pub unspelt-test : (p : List ℕ) → numberOf p ≡ 1 → test (spelt p) ≡ false
+unspelt-test : (p : List ℕ) → numberOf p ≡ 1 → test (spelt p) ≡ false
 unspelt-test p e = fails-test (spelt p) (⊎-elim (λ z. omega (arith, e, z)) (λ m. omega (arith, e, m)))
+
+-- what is found of sheets, the first being at this place
+abbrev pub found : ℕ → List (List ℕ) → Finding ReportRefusal
+found place ps = firstOf (askedFrom Misspelt place (map spelt ps))
+
+pub none-found : (place : ℕ) → found place [] ≡ met
+none-found place = none-asked Misspelt place
+
+-- the first sheet fails, or passes on to those behind
+module _ (place : ℕ) {ps qs : List (List ℕ)} {p : List ℕ} (e : ps ≡ p ∷ qs) where
+  pub fails-here : numberOf p ≡ 1 → found place ps ≡ refusal (Misspelt place)
+  fails-here n = asked-fails Misspelt place (ap (map spelt) e) (unspelt-test p n)
+
+  pub passes-here : (numberOf p ≡ 1 → ⊥) → found place ps ≡ found (place + 1) qs
+  passes-here n = asked-passes Misspelt place (ap (map spelt) e) (spelt-test p n)

@@ -1,28 +1,27 @@
 -- The loop over the sheets of a catalogue: what holds where some of them are entered, and what one sheet more changes.
 use Prim.Native.Nat.{ℕ, _+_, _-_, _*_, _≤_, _<_}
-use mathlib.Core.List.{List, [], _∷_, _++_, map}
+use mathlib.Core.List.{List, [], _∷_, _++_}
 use mathlib.Core.Path.{_≡_, refl, sym, ap, _∙_}
 use native.Mathlib.Omega.{arith}
 use lib.ListN.{length, getD, take, drop, set, replicate, length-append, length-take, length-drop, drop-of-length-le}
 use lib.Seq.{sets, take-add, take-all, drop-drop}
 use Rattle.questions.specs.Buffers.{over}
-use Rattle.questions.specs.Asking.{askedFrom, refusal, firstOf}
-use Rattle.questions.proofs.Laws.{asked-fails, asked-passes, none-asked}
+use Rattle.questions.specs.Asking.{refusal, firstOf}
 use Rattle.lines.proofs.Laws.{over-nothing, over-sets, length-over}
 use Rattle.catalogue.specs.declared.ReportRefusal.the-variants.{Misspelt}
 use Rattle.catalogue.specs.declared.judging.Judged.{Judged}
 use Rattle.catalogue.specs.declared.entries.Entered.the-variants.{Stopped, Rows}
 use Rattle.catalogue.specs.Catalogues.{mostSheets, sheetsIn, certified, numberOf, counted}
-use Rattle.catalogue.specs.Outcome.{spelt, question15}
+use Rattle.catalogue.specs.Outcome.{question15}
 use Rattle.catalogue.specs.Forms.{sheetEnd, judgedOf, rowOf, countsOf, entries, EnteredFrom}
 use Rattle.catalogue.proofs.SheetLaws.{sheets-none, sheets-at}
-use Rattle.catalogue.proofs.EntryLaws.{number-is, number-most, counted-most, count-at, counts-next, entries-none, entries-more, entries-most, row-most, spellingsFrom, spelt-test, unspelt-test}
+use Rattle.catalogue.proofs.EntryLaws.{number-is, number-most, counted-most, count-at, counts-next, entries-none, entries-more, entries-most, row-most, found, none-found, fails-here, passes-here}
 
 -- `place` sheets of s are entered, and the next begins at `at`; the array of rows was `array`
 pub record Begun (s array : List ℕ) (at place used : ℕ) (counts rows : List ℕ) : Type 0 where
   pub within : at ≤ length s
   pub left : sheetsIn (drop at s) ≡ drop place (sheetsIn s)
-  pub found : firstOf (question15 (sheetsIn s)) ≡ firstOf (spellingsFrom (sheetsIn s) place)
+  pub finds : firstOf (question15 (sheetsIn s)) ≡ found (1 + place) (drop place (sheetsIn s))
   pub numbers : used ≡ length (entries (take place (sheetsIn s)))
   pub counted-so : counts ≡ countsOf (take place (sheetsIn s))
   pub entered : rows ≡ over (entries (take place (sheetsIn s))) array
@@ -32,7 +31,7 @@ unfolding question15 countsOf counted
 begun-none s array counts e = record {
   within = omega arith;
   left = refl;
-  found = refl;
+  finds = refl;
   numbers = sym (ap length entries-none);
   counted-so = e;
   entered = over-nothing array ∙ ap (λ (l : List ℕ). over l array) (sym entries-none);
@@ -61,7 +60,7 @@ module _ {s array : List ℕ} {at place used : ℕ} {counts rows : List ℕ} (h 
   pub all-entered : EnteredFrom (sheetsIn s) array counts rows (Rows used)
   unfolding EnteredFrom
   all-entered = (
-    h .found ∙ ap (λ (l : List (List ℕ)). firstOf (askedFrom Misspelt (1 + place) (map spelt l))) none-left ∙ none-asked Misspelt (1 + place),
+    h .finds ∙ ap (found (1 + place)) none-left ∙ none-found (1 + place),
     h .numbers ∙ ap (λ (l : List (List ℕ)). length (entries l)) all-taken,
     h .counted-so ∙ ap countsOf all-taken,
     h .entered ∙ ap (λ (l : List (List ℕ)). over (entries l) array) all-taken,
@@ -122,8 +121,8 @@ module _ {s array : List ℕ} {at place used : ℕ} {counts rows : List ℕ} (h 
   pub stopped : (counts′ rows′ : List ℕ) → j .number ≡ 1 → EnteredFrom P array counts′ rows′ (Stopped (place + 1))
   unfolding EnteredFrom
   stopped counts′ rows′ e =
-      h .found
-      ∙ asked-fails Misspelt (1 + place) (ap (map spelt) next-sheet) (unspelt-test p (sym (number-is p) ∙ e))
+      h .finds
+      ∙ fails-here (1 + place) next-sheet (sym (number-is p) ∙ e)
       ∙ ap (λ (n : ℕ). refusal (Misspelt n)) (omega arith)
 
   -- or it is entered
@@ -139,11 +138,11 @@ module _ {s array : List ℕ} {at place used : ℕ} {counts rows : List ℕ} (h 
     entered-next used′ counts′ rows′ eu ec er inside = record {
       within = inside;
       left = behind;
-      found =
-          h .found
-          ∙ asked-passes Misspelt (1 + place) (ap (map spelt) next-sheet) (spelt-test p (λ e. other (number-is p ∙ e)))
-          ∙ ap (λ (l : List (List ℕ)). firstOf (askedFrom Misspelt (1 + place + 1) (map spelt l))) behind
-          ∙ ap (λ (n : ℕ). firstOf (askedFrom Misspelt n (map spelt (drop (place + 1) P)))) (omega arith);
+      finds =
+          h .finds
+          ∙ passes-here (1 + place) next-sheet (λ e. other (number-is p ∙ e))
+          ∙ ap (found (1 + place + 1)) behind
+          ∙ ap (λ (n : ℕ). found n (drop (place + 1) P)) (omega arith);
       numbers = omega (arith, eu, h .numbers, ap length entries-then, length-append (entries (take place P)) (rowOf (place + 1) j));
       counted-so =
           ec ∙ ap (λ (n : ℕ). set counts n (getD counts n 0 + 1)) (number-is p)

@@ -1,16 +1,18 @@
 -- The questions on a catalogue in order: what each case leads to.
-use Prim.Native.Nat.{ℕ}
+use Prim.Native.Nat.{ℕ, _<_}
 use mathlib.Core.List.{List, [], _∷_}
 use mathlib.Core.Logic.{inl}
 use mathlib.Core.Path.{_≡_, refl, ap, _∙_}
 use native.Mathlib.Omega.{arith}
+use lib.ListN.{length}
 use Rattle.questions.specs.Asking.{Finding, refusal, met, firstOf, firstIn}
 use Rattle.questions.specs.Outcomes.{refused, writtenIfMet, fitted}
 use Rattle.questions.proofs.Laws.{met-when-all, refused-when-no, first-refuses, first-passes, if-unmet-refused, asked-last}
 use Rattle.catalogue.specs.declared.ReportRefusal.{ReportRefusal}
-use Rattle.catalogue.specs.declared.ReportRefusal.the-variants.{SheetCount, Room}
-use Rattle.catalogue.specs.Catalogues.{reportOf}
-use Rattle.catalogue.specs.Outcome.{question14, question15, question12, outcomeOn}
+use Rattle.catalogue.specs.declared.ReportRefusal.the-variants.{SheetCount, Misspelt, Room}
+use Rattle.catalogue.specs.Catalogues.{mostSheets, sheetsIn, reportOf}
+use Rattle.catalogue.specs.Refusals.{reportAnswer}
+use Rattle.catalogue.specs.Outcome.{question14, question15, question12, outcomeOn, reportOutcome}
 use Rattle.catalogue.specs.Promises.{Countable}
 
 module _ (ps : List (List ℕ)) (room : ℕ) where
@@ -35,3 +37,14 @@ module _ (ps : List (List ℕ)) (room : ℕ) where
     outcome-fitted e =
         ap (λ (f : Finding ReportRefusal). writtenIfMet f (reportOf ps)) (behind-14 ∙ first-passes (question15 ps) (question12 room ps ∷ []) e)
         ∙ asked-last Room room (reportOf ps)
+
+-- so a catalogue of over 1,000 sheets is refused
+pub too-many-refused : (s : List ℕ) (room : ℕ) → mostSheets < length (sheetsIn s) → reportOutcome s room ≡ refused SheetCount
+unfolding reportOutcome
+too-many-refused s room h = outcome-14 (sheetsIn s) room (λ n. omega (arith, n .few, h))
+
+-- a refusal has a number
+pub report-numbered : (r : ReportRefusal) → (reportAnswer r) .refusal ≡ 0 → ⊥
+report-numbered SheetCount e = omega arith
+report-numbered (Misspelt place) e = omega arith
+report-numbered (Room len) e = omega arith

@@ -4,7 +4,7 @@ use mathlib.Core.List.{List, [], _∷_, map}
 use mathlib.Core.Logic.{_⊎_, inl, inr, _↔_}
 use mathlib.Core.Path.{_≡_, refl, sym, ap, _∙_, subst}
 use native.Mathlib.Omega.{arith}
-use lib.ListN.{getD, length-map}
+use lib.ListN.{length, getD, length-map}
 use Rattle.questions.specs.Claims.{Claim, Holds}
 use Rattle.questions.specs.Asking.{refusal, met, firstOf}
 use Rattle.questions.proofs.Laws.{all-when-met, met-when-all, no-when-refused, refused-when-no, all-asked, each-asked, no-among, no-asked}
@@ -15,7 +15,7 @@ use Rattle.catalogue.specs.declared.ReportRefusal.{ReportRefusal}
 use Rattle.catalogue.specs.declared.ReportRefusal.the-variants.{Misspelt}
 use Rattle.catalogue.specs.Catalogues.{certified, numberOf}
 use Rattle.catalogue.specs.Outcome.{spelt, question15}
-use Rattle.catalogue.specs.Promises.{Spelt, Unspelt, sheetAt, AtPlace, AllSpelt}
+use Rattle.catalogue.specs.Promises.{Spelt, Unspelt, sheetAt, AllSpelt, FirstAt}
 use Rattle.catalogue.proofs.EntryLaws.{spelt-holds}
 
 -- One sheet: what is claimed of its number.
@@ -77,13 +77,12 @@ module _ (ps : List (List ℕ)) where
         (λ i inside. claimed i .1 (subst Spelt (at-index i) (h .each (suc i) (omega arith, omega (arith, inside, length-map ps spelt)))))),
   )
 
-  -- the first that does not, at its place
-  pub record FirstAt (place : ℕ) : Type 0 where
-    pub within : AtPlace ps place
-    pub before : (i : ℕ) → 1 ≤ i → i < place → Spelt (sheetAt ps i)
-    pub here : Unspelt (sheetAt ps place)
+  -- so `write` answers none of them with 1
+  pub none-misspelt : AllSpelt ps → (i : ℕ) → i < length ps → numberOf (getD ps i []) ≡ 1 → ⊥
+  none-misspelt s i inside = not-one (getD ps i []) (subst Spelt (at-index i) (s .each (suc i) (omega arith, omega arith)))
 
-  pub first-found : {r : ReportRefusal} → firstOf (question15 ps) ≡ refusal r → (place : ℕ) × FirstAt place × (r ≡ Misspelt place)
+  -- the first that does not, at its place
+  pub first-found : {r : ReportRefusal} → firstOf (question15 ps) ≡ refusal r → (place : ℕ) × FirstAt ps place × (r ≡ Misspelt place)
   unfolding question15
   first-found {r} e =
       let m = no-among Misspelt (spelt []) 1 claims r (no-when-refused (question15 ps) r e) in
@@ -98,7 +97,7 @@ module _ (ps : List (List ℕ)) where
         sym (m .which) ∙ ap Misspelt next,
       )
 
-  pub first-told : (place : ℕ) → FirstAt place → firstOf (question15 ps) ≡ refusal (Misspelt place)
+  pub first-told : (place : ℕ) → FirstAt ps place → firstOf (question15 ps) ≡ refusal (Misspelt place)
   unfolding question15
   first-told place f =
       let i = place - 1 in

@@ -54,13 +54,17 @@ pub record Uncountable (ps : List (List ℕ)) (a : Answer) : Type 0 where
   pub count : (length ps ≡ 0) ⊎ (mostSheets < length ps)
   pub reported : a ≡ answer 14 0 0
 
--- 15, next, if a sheet fails the first question, with the first such sheet's place
-pub record FirstUnspelt (ps : List (List ℕ)) (a : Answer) : Type 0 where
-  pub countable : Countable ps
-  pub place : ℕ
+-- the first sheet that fails the first question stands at this place
+pub record FirstAt (ps : List (List ℕ)) (place : ℕ) : Type 0 where
   pub within : AtPlace ps place
   pub before : (i : ℕ) → 1 ≤ i → i < place → Spelt (sheetAt ps i)
   pub here : Unspelt (sheetAt ps place)
+
+-- 15, next, if there is such a sheet, with its place
+pub record FirstUnspelt (ps : List (List ℕ)) (a : Answer) : Type 0 where
+  pub countable : Countable ps
+  pub place : ℕ
+  pub first : FirstAt ps place
   pub reported : a ≡ answer 15 place 0
 
 -- 12, last, with the length needed

@@ -30,6 +30,10 @@ module _ {R : Type 0} (told : R → Answer) (numbered : (r : R) → (told r) .re
   not-accepted : (b : List ℕ) (r : R) → (answerOf told (refused r)) .refusal ≡ 0 → ⊥
   not-accepted b r e = numbered r (ap (λ (a : Answer). a .refusal) (refusal-answered b r .0) ∙ e)
 
+  pub refused-prints : (r : R) → outcomePrints told (refused r) ≡ refusalLines (told r)
+  unfolding outcomePrints
+  refused-prints r = refl
+
   -- with no refusal the buffer has at its front what is printed
   pub text-printed : (o : Outcome R) (b : List ℕ) → (answerOf told o) .refusal ≡ 0
       → ((answerOf told o) .length ≡ length (outcomePrints told o)) × (bufferAfter o b ≡ over (outcomePrints told o) b)

@@ -16,8 +16,8 @@ use Rattle.catalogue.specs.declared.counting.LineCount.{LineCount}
 use Rattle.catalogue.specs.Forms.{sheetsCounted}
 use Rattle.catalogue.specs.Catalogues.{mostSheets, longestReport, sheetsIn}
 use Rattle.catalogue.specs.Refusals.{reportAnswer}
-use Rattle.catalogue.specs.Outcome.{reportOutcome}
-use Rattle.catalogue.proofs.Laws.{counted-exactly, counted-over, cut-catalogue, outcome-14, sheets-count}
+use Rattle.catalogue.proofs.Laws.{counted-exactly, counted-over, cut-catalogue, report-numbered, sheets-count, too-many-refused}
+use Rattle.report.proofs.Laws.{refused-prints}
 use Rattle.survey.specs.Printed.{surveyPrints, keptPrints}
 use Rattle.survey.specs.Inputs.{mostKept, Read}
 
@@ -28,8 +28,8 @@ survey-cut s m few h = ap (outcomePrints reportAnswer) (cut-catalogue s m longes
 
 -- where there are, the lines of their refusal are printed, so no byte behind those that have too many already
 pub prints-over : (s : List ℕ) → mostSheets < length (sheetsIn s) → surveyPrints s ≡ refusalLines (reportAnswer SheetCount)
-unfolding surveyPrints reportOutcome outcomePrints
-prints-over s h = ap (outcomePrints reportAnswer) (outcome-14 (sheetsIn s) longestReport (λ n. omega (arith, n .few, h)))
+unfolding surveyPrints
+prints-over s h = ap (outcomePrints reportAnswer) (too-many-refused s longestReport h) ∙ refused-prints reportAnswer report-numbered SheetCount
 
 pub survey-over : (s t : List ℕ) → mostSheets < length (sheetsIn s) → surveyPrints (s ++ t) ≡ surveyPrints s
 survey-over s t h =

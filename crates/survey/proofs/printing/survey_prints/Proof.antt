@@ -10,8 +10,8 @@ use Rattle.questions.specs.declared.Answer.{Answer}
 use Rattle.questions.specs.Outcomes.{Outcome, answerOf, bufferAfter}
 use Rattle.report.specs.Printed.{refusalLines, outcomePrints}
 use Rattle.report.proofs.Laws.{text-printed, refusal-printed}
+use Rattle.catalogue.proofs.Laws.{report-numbered}
 use Rattle.catalogue.specs.declared.ReportRefusal.{ReportRefusal}
-use Rattle.catalogue.specs.declared.ReportRefusal.the-variants.{SheetCount, Misspelt, Room}
 use Rattle.catalogue.specs.Catalogues.{longestReport}
 use Rattle.catalogue.specs.Refusals.{reportAnswer}
 use Rattle.catalogue.specs.Outcome.{reportOutcome}
@@ -50,11 +50,6 @@ report-requires c κs = search needs
 
 put-refusal-requires-2 : tie.Need-put-refusal-requires-2
 put-refusal-requires-2 c κs = search needs
-
-report-numbered : (r : ReportRefusal) → (reportAnswer r) .refusal ≡ 0 → ⊥
-report-numbered SheetCount e = omega arith
-report-numbered (Misspelt place) e = omega arith
-report-numbered (Room len) e = omega arith
 
 -- There are not: the answer, and what is left in the buffer.
 module _ (c : tie.After-report) where
