@@ -60,6 +60,23 @@ static int report_on_catalogue(void) {
     return 0;
 }
 
+/* A lip's coefficient at a ratio in millionths: it lies between the two ends. */
+static void look_up(const char *what, uint64_t ratio) {
+    hm_coefficient k = hm_lip_coefficient(ratio);
+    if (k.refusal == HM_NOT_REFUSED)
+        printf("%s: %llu to %llu millionths\n", what, (unsigned long long)k.lower, (unsigned long long)k.upper);
+    else
+        say(what, (hm_answer){k.refusal, k.line, k.length});
+}
+
+/* The table has the ratios from 0.350 to 0.600. Outside them a lookup is refused. */
+static void lip_coefficients(void) {
+    uint8_t table[HM_LIP_TABLE_LENGTH];
+    say("Table of lip coefficients", hm_lip_table(table, sizeof table));
+    look_up("Lip coefficient at 0.412345", 412345);
+    look_up("Lip coefficient at 0.610000", 610000);
+}
+
 int main(void) {
     /* The caller passes the buffer. So many bytes take every certificate. */
     uint8_t buffer[HM_CERTIFICATE_LONGEST];
@@ -85,5 +102,8 @@ int main(void) {
 
     /* A buffer that is too short is not written to either, and the length needed is reported. */
     say("Certificate in a buffer of 100 bytes", from_numbers(buffer, 100));
-    return report_on_catalogue();
+    if (report_on_catalogue() != 0)
+        return 1;
+    lip_coefficients();
+    return 0;
 }

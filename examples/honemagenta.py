@@ -30,6 +30,9 @@ CERTIFICATE_LONGEST = 273
 SHEETS_MOST = 1000
 REPORT_LONGEST = 27088
 
+# How long the table of lip coefficients is.
+LIP_TABLE_LENGTH = 3514
+
 # A sheet's lines.
 KEYS = ("form", "h", "b1", "b2", "c", "r", "tnom", "t", "fyb", "gm0", "rounds", "allow")
 
@@ -51,6 +54,7 @@ REFUSALS = {
     13: "a figure is not the one worked from the first twelve lines",
     14: "there are no sheets, or more than 1,000",
     15: "a sheet of the catalogue is missing lines or misspelt",
+    16: "the ratio is outside 0.350 to 0.600",
 }
 
 
@@ -82,6 +86,12 @@ class Answer(ctypes.Structure):
     _fields_ = [("refusal", c_uint64), ("line", c_uint64), ("length", c_uint64)]
 
 
+class Coefficient(Answer):
+    """What a lookup answers: hm_coefficient of the header."""
+
+    _fields_ = [("lower", c_uint64), ("upper", c_uint64)]
+
+
 class Honemagenta:
     """The calls of the shared object at a path. Several threads may use one."""
 
@@ -91,60 +101,81 @@ class Honemagenta:
         self._check = library.hm_certificate_check
         self._from_numbers = library.hm_certificate_from_numbers
         self._report = library.hm_catalogue_report
+        self._lip_table = library.hm_lip_table
+        self._lip_coefficient = library.hm_lip_coefficient
         self._write.argtypes = [c_char_p, c_size_t, c_char_p, c_size_t]
         self._check.argtypes = [c_char_p, c_size_t]
         self._from_numbers.argtypes = [c_uint64] * 12 + [c_char_p, c_size_t]
         self._report.argtypes = [c_char_p, c_size_t, c_char_p, c_size_t]
-        for call in (self._write, self._check, self._from_numbers, self._report):
+        self._lip_table.argtypes = [c_char_p, c_size_t]
+        self._lip_coefficient.argtypes = [c_uint64]
+        for call in (self._write, self._check, self._from_numbers, self._report, self._lip_table):
             call.restype = Answer
+        self._lip_coefficient.restype = Coefficient
 
     def write(self, sheet, room=CERTIFICATE_LONGEST):
         """The certificate of a sheet, both as bytes, written into a buffer of so many bytes."""
-        return _written(self._write, sheet, room)
+        return _written(self._write, *_lent(sheet), room=room)
 
     def from_numbers(self, form, h, b1, b2, c, r, tnom, t, fyb, gm0, rounds, allow, room=CERTIFICATE_LONGEST):
         """The same from the twelve numbers of a sheet, the form being FORM_C or FORM_Z."""
         numbers = (form, h, b1, b2, c, r, tnom, t, fyb, gm0, rounds, allow)
-        _refuse_wide(numbers)
-        buffer = ctypes.create_string_buffer(room)
-        length = _length(self._from_numbers(*numbers, buffer, room))
-        return buffer.raw[:length]
+        _refuse_wide(KEYS, numbers)
+        return _written(self._from_numbers, *numbers, room=room)
 
     def check(self, certificate):
         """The length of a certificate (bytes) that is the one written for its own sheet; any other is refused."""
-        certificate = _text(certificate)
-        return _length(self._check(certificate, len(certificate)))
+        return _accepted(self._check(*_lent(certificate))).length
 
     def report(self, catalogue, room=REPORT_LONGEST):
         """The report on a catalogue, sheets joined end to end, both as bytes, written into a buffer of so many bytes."""
-        return _written(self._report, catalogue, room)
+        return _written(self._report, *_lent(catalogue), room=room)
+
+    def lip_table(self, room=LIP_TABLE_LENGTH):
+        """The table of lip coefficients as bytes, written into a buffer of so many bytes."""
+        return _written(self._lip_table, room=room)
+
+    def lip_coefficient(self, ratio):
+        """The lower and the upper end of a lip's coefficient, for a ratio; all in millionths. For a ratio of more than
+        six places take the lower end at the ratio rounded down to six, and the upper end at the ratio rounded up."""
+        _refuse_wide(("ratio",), (ratio,))
+        found = _accepted(self._lip_coefficient(ratio))
+        return found.lower, found.upper
 
 
-def _text(text):
+def _lent(text):
+    """A text and its length."""
     if not isinstance(text, (bytes, bytearray, memoryview)):
         raise TypeError(f"bytes are wanted, not {type(text).__name__}")
-    return bytes(text)
+    text = bytes(text)
+    return text, len(text)
 
 
-def _written(call, text, room):
-    """What a call on a text writes into a buffer of so many bytes."""
-    text = _text(text)
+def _written(call, *arguments, room):
+    """What a call writes into a buffer of so many bytes."""
     buffer = ctypes.create_string_buffer(room)
-    length = _length(call(text, len(text), buffer, room))
+    length = _accepted(call(*arguments, buffer, room)).length
     return buffer.raw[:length]
 
 
-def _refuse_wide(numbers):
+def _refuse_wide(names, numbers):
     """ctypes keeps the last 64 bits of a number: 2**64 + 20000 would pass as 20000."""
-    for key, number in zip(KEYS, numbers):
+    for name, number in zip(names, numbers):
         if not isinstance(number, int) or not 0 <= number < 2**64:
-            raise ValueError(f"{key}: {number!r} is not a whole number from 0 to 2**64 - 1")
+            raise ValueError(f"{name}: {number!r} is not a whole number from 0 to 2**64 - 1")
 
 
-def _length(answer):
+def _accepted(answer):
+    """An answer that is no refusal."""
     if answer.refusal != 0:
         raise Refused(answer.refusal, answer.line, answer.length, refusal_words(answer.refusal))
-    return answer.length
+    return answer
+
+
+def _in_words(result):
+    if isinstance(result, tuple):
+        return "%d to %d millionths" % result
+    return f"in order, {result if isinstance(result, int) else len(result)} bytes"
 
 
 def _demonstrate(path):
@@ -157,7 +188,7 @@ def _demonstrate(path):
         except Refused as refused:
             print(f"{what}: {refused}")
             return None
-        print(f"{what}: in order, {result if isinstance(result, int) else len(result)} bytes")
+        print(f"{what}: {_in_words(result)}")
         return result
 
     # Lengths are in 0.01 mm. The last number, allow, says that the area may be off by 0.1 mm².
@@ -187,6 +218,11 @@ def _demonstrate(path):
     report = said("Report on a catalogue of two sheets", library.report, catalogue)
     print(report.decode("ascii"), end="")
     said("Report without the last byte", library.report, catalogue[:-1])
+
+    # A lip's coefficient lies between the two ends that are looked up. Outside 0.350 to 0.600 a lookup is refused.
+    said("Table of lip coefficients", library.lip_table)
+    said("Lip coefficient at 0.412345", library.lip_coefficient, 412345)
+    said("Lip coefficient at 0.610000", library.lip_coefficient, 610000)
 
 
 if __name__ == "__main__":

@@ -1,7 +1,7 @@
 /*
- * Certificates of lipped C and Z sections, and reports on catalogues of them: the
- * calls of libhonemagenta.a, which `rt staticlib honemagenta` writes to
- * target/staticlib/.
+ * Certificates of lipped C and Z sections, reports on catalogues of them, and a
+ * table of lip coefficients: the calls of libhonemagenta.a, which
+ * `rt staticlib honemagenta` writes to target/staticlib/.
  *
  * What a caller owes. Nothing checks a caller in C:
  *  - A pointer is not null, also where its length is 0, and points to as many
@@ -12,16 +12,17 @@
  * Every length and every content is allowed. The calls keep nothing between
  * them, allocate nothing and may run in several threads at a time.
  *
- * What is answered. `refusal` is 0 where a certificate or a report is written or
- * a certificate passes; `line` is then 0, and `length` counts the bytes of that
- * text, which is not ended by a zero byte. Otherwise `refusal` is the number of
+ * What is answered. `refusal` is 0 where a text is written, a certificate passes
+ * or a coefficient is found; `line` is then 0, and `length` counts the bytes of
+ * the text, which is not ended by a zero byte. Otherwise `refusal` is the number of
  * the first question that is not met (enum hm_refusal), and `line` the line
  * concerned, at 15 the sheet's place in its catalogue, 1 for the first. `length`
  * is 0 at every refusal but 12, where it is the length needed. A refusal leaves
  * every byte of the buffer as it was; bytes behind what is written are kept too.
+ * Of a coefficient `length` is always 0, and at a refusal both ends are 0.
  *
- * README.md says what the lines of a sheet, a certificate and a report are, and
- * what to do about a refusal.
+ * README.md says what the lines of a sheet, a certificate, a report and the
+ * table are, and what to do about a refusal.
  */
 #ifndef HONEMAGENTA_H
 #define HONEMAGENTA_H
@@ -36,6 +37,9 @@
 #define HM_SHEETS_MOST 1000
 #define HM_REPORT_LONGEST 27088
 
+/* How long the table of lip coefficients is. */
+#define HM_LIP_TABLE_LENGTH 3514
+
 /* The two forms, as numbers. */
 #define HM_FORM_C 0
 #define HM_FORM_Z 1
@@ -49,6 +53,15 @@ typedef struct hm_answer {
     uint64_t line;
     uint64_t length;
 } hm_answer;
+
+/* What a lookup answers: a lip's coefficient k lies from lower to upper, in millionths. */
+typedef struct hm_coefficient {
+    uint64_t refusal;
+    uint64_t line;
+    uint64_t length;
+    uint64_t lower;
+    uint64_t upper;
+} hm_coefficient;
 
 /* The refusals, each with the line that is reported; hm_refusal_words says what is wrong. */
 enum hm_refusal {
@@ -67,7 +80,8 @@ enum hm_refusal {
     HM_BUFFER_TOO_SHORT = 12,     /* 0; length is the length needed */
     HM_WRONG_FIGURE = 13,         /* 13 to 18, the first such figure; only when checking */
     HM_WRONG_SHEET_COUNT = 14,    /* 0; only of a catalogue */
-    HM_SHEET_MISSPELT = 15        /* 1 to 1000, the place of the first such sheet; only of a catalogue */
+    HM_SHEET_MISSPELT = 15,       /* 1 to 1000, the place of the first such sheet; only of a catalogue */
+    HM_OUTSIDE_TABLE = 16         /* 0; only of a coefficient */
 };
 
 /* What is wrong, in the words of README.md's table. */
@@ -89,6 +103,7 @@ static inline const char *hm_refusal_words(uint64_t refusal) {
     case HM_WRONG_FIGURE: return "a figure is not the one worked from the first twelve lines";
     case HM_WRONG_SHEET_COUNT: return "there are no sheets, or more than 1,000";
     case HM_SHEET_MISSPELT: return "a sheet of the catalogue is missing lines or misspelt";
+    case HM_OUTSIDE_TABLE: return "the ratio is outside 0.350 to 0.600";
     default: return "no such refusal";
     }
 }
@@ -112,6 +127,20 @@ hm_answer hm_certificate_from_numbers(uint64_t form, uint64_t h, uint64_t b1, ui
  * 1, its area and its axial resistance, one blank between. The call takes some 25 KB of stack.
  */
 hm_answer hm_catalogue_report(const uint8_t *sheets, size_t sheets_len, uint8_t *buffer, size_t buffer_len);
+
+/*
+ * Writes the table of lip coefficients to the start of the buffer: for each ratio of a lip to its flange, on the
+ * mid-lines, from 0.350 to 0.600 in steps of 0.001, a line with the lower and the upper end of k in millionths, one
+ * blank between. Only a buffer that is too short is refused.
+ */
+hm_answer hm_lip_table(uint8_t *buffer, size_t buffer_len);
+
+/*
+ * Looks up k in that table, for a ratio in millionths, 350000 to 600000: the lower end of the entry at or below it and
+ * the upper end of the entry at or above it. k lies between, however finely it is worked. For a ratio of more than
+ * six places take the lower end at the ratio rounded down to six, and the upper end at the ratio rounded up.
+ */
+hm_coefficient hm_lip_coefficient(uint64_t ratio);
 
 #ifdef __cplusplus
 }

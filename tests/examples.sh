@@ -17,4 +17,4 @@ cc -shared -Wl,-z,text -o "$made/libhonemagenta.so" -Wl,--whole-archive "$archiv
 python3 examples/honemagenta.py "$made/libhonemagenta.so" | diff examples/output.txt -
 echo "examples/honemagenta.py: prints what the reference answers"
 PYTHONPATH=examples python3 -B tests/python_module.py "$made/libhonemagenta.so"
-echo "examples/honemagenta.py: certificates, reports, refusals and numbers outside 64 bits, by import"
+echo "examples/honemagenta.py: certificates, reports, lip coefficients, refusals and numbers outside 64 bits, by import"

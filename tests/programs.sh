@@ -1,9 +1,9 @@
 #!/usr/bin/env bash
-# Proves and builds certify, verify and survey, runs them as a user would, and holds what they print against
-# the reference.
+# Proves and builds certify, verify, survey and tabulate, runs them as a user would, and holds what they print
+# against the reference.
 set -eu
 cd "$(dirname "$0")/.."
-rt check certify verify survey
+rt check certify verify survey tabulate
 cargo run --release --offline -q --manifest-path tests/reference/Cargo.toml --bin programs -- target/bin
 
 # README's first command shows the certificate alone.

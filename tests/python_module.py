@@ -7,6 +7,7 @@ from honemagenta import (
     FORM_C,
     FORM_Z,
     KEYS,
+    LIP_TABLE_LENGTH,
     REPORT_LONGEST,
     SHEETS_MOST,
     Honemagenta,
@@ -37,6 +38,17 @@ def refuses(number, line, length, call, *arguments, **named):
     assert refused.words == refusal_words(number) and refused.words in str(refused), refused
     again = pickle.loads(pickle.dumps(refused))
     assert str(again) == str(refused), again
+
+
+def not_64_bits(number):
+    """What is like a number, but no number of 64 bits."""
+    return 2**64 + number, 2**64, -1, float(number), str(number), None
+
+
+def stopped(name, number, call, *arguments):
+    """What is no number of 64 bits does not reach the call."""
+    error = raised(ValueError, call, *arguments)
+    assert str(error).startswith(f"{name}: {number!r} "), error
 
 
 def contents(path):
@@ -73,11 +85,9 @@ def certificates(library, sheet):
     words = raised(Refused, library.from_numbers, *with_number(ALLOW, 0)).words
     assert words == "the area cannot be given as closely as allow asks", words
 
-    # What is no number of 64 bits does not reach the call, wherever it stands.
     for place, key in enumerate(KEYS):
-        for number in (2**64 + SHEET_B[place], 2**64, -1, float(SHEET_B[place]), str(SHEET_B[place]), None):
-            error = raised(ValueError, library.from_numbers, *with_number(place, number))
-            assert str(error).startswith(f"{key}: {number!r} "), error
+        for number in not_64_bits(SHEET_B[place]):
+            stopped(key, number, library.from_numbers, *with_number(place, number))
     raised(TypeError, library.from_numbers, *SHEET_B[:-1])
     assert len(certificate) <= CERTIFICATE_LONGEST
 
@@ -104,11 +114,34 @@ def reports(library, sheet):
     assert library.report(catalogue, room=len(report)) == report
 
 
+def lip_coefficients(library):
+    # The table is the reference's.
+    table = library.lip_table()
+    assert table == contents("crates/tabulate/stdout") and len(table) == LIP_TABLE_LENGTH, table
+    assert library.lip_table(room=len(table) + 1) == table
+    for room in (0, 20, len(table) - 1):
+        refuses(12, 0, len(table), library.lip_table, room=room)
+
+    # At an entry its own ends, between two the lower end of the one and the upper end of the other.
+    entries = [tuple(int(end) for end in line.split()) for line in table.splitlines()]
+    for i, entry in enumerate(entries):
+        assert library.lip_coefficient(350000 + 1000 * i) == entry, i
+    for i, (below, above) in enumerate(zip(entries, entries[1:])):
+        for past in (1, 500, 999):
+            assert library.lip_coefficient(350000 + 1000 * i + past) == (below[0], above[1]), i
+
+    for ratio in (0, 349999, 600001, 2**64 - 1):
+        refuses(16, 0, 0, library.lip_coefficient, ratio)
+    for ratio in not_64_bits(475000):
+        stopped("ratio", ratio, library.lip_coefficient, ratio)
+
+
 def main(path):
     library = Honemagenta(path)
     sheet = contents("examples/sheet_b.txt")
     certificates(library, sheet)
     reports(library, sheet)
+    lip_coefficients(library)
     for text in (sheet.decode("ascii"), None, 160, [1, 2]):
         for call in (library.write, library.check, library.report):
             raised(TypeError, call, text)

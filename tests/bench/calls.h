@@ -33,3 +33,6 @@ typedef Answer Check(const uint8_t *certificate, size_t length);
 typedef Answer FromNumbers(SHEET(PARAMETER) uint8_t *buffer, size_t room);
 // Of sheets joined end to end.
 typedef Write Report;
+
+// The ratios of the table of lip coefficients, in millionths. (Request W-203.)
+enum { RATIO_LEAST = 350000, RATIO_MOST = 600000, RATIO_STEP = 1000 };

@@ -2,6 +2,7 @@
 // sheet and beside the same reports in plain C (plain.c), in one run with their turns interleaved. Before that
 // all versions, and the reference (tests/reference), must give the same answers and the same buffers, byte by
 // byte: the first difference stops the run.
+#include "columns.h"
 #include "sheets.h"
 
 enum { POOL = 3000, SMALL = 400, ROWS = 4 };
@@ -150,6 +151,8 @@ static const char *const group_names[GROUPS] = {
     "this report", "`hm_certificate_write` each", "C, Newton", "C, by bits", "C, processor's",
 };
 
+static const Columns columns = {"ns for one report | ns for one sheet", GROUPS, group_names, 0};
+
 // All sheets of the catalogue, so many in a report.
 typedef struct {
     const char *name;
@@ -192,30 +195,11 @@ static void fill_catalogues(void) {
     for (int i = 0; i < HM_SHEETS_MOST; i++) append(&third_refused, i % 3 == 2 ? refused_sheet() : sheets[i]);
 }
 
-static void print_head(void) {
-    printf("| | ns for one report | ns for one sheet |");
-    for (int g = CALLS; g < GROUPS; g++) printf(" %s | ratio |", group_names[g]);
-    printf("\n|---|---|---|");
-    for (int g = CALLS; g < GROUPS; g++) printf("---|---|");
-    printf("\n");
-}
-
 static Times measure(const Work *w) {
     Times t = measured(pass, GROUPS * PLACES, w, w->catalogue->count);
     printf("| %s | %.0f | %.0f |", w->name, group_ns(&t, REPORT) * w->size, group_ns(&t, REPORT));
-    for (int g = CALLS; g < GROUPS; g++) printf(" %.0f | %.2f |", group_ns(&t, g), t.ratio[g]);
-    printf("\n");
-    fflush(stdout);
+    print_others(&columns, &t);
     return t;
-}
-
-static void print_spreads(const Work *w, const Times *t) {
-    printf("%s:", w->name);
-    for (int g = 0; g < GROUPS; g++) {
-        Spread spread = spread_of(t, g);
-        printf("%s %s %.0f-%.0f", g ? ";" : "", group_names[g], spread.least, spread.most);
-    }
-    printf("\n");
 }
 
 static void times(void) {
@@ -232,10 +216,10 @@ static void times(void) {
            "sheet: the median of %d interleaved turns, then of %d places of the code in memory; behind it the ratio\n"
            "of this report to that.\n\n",
            HM_SHEETS_MOST, HM_REPORT_LONGEST, ROOM, TURNS, PLACES);
-    print_head();
+    print_head(&columns);
     for (int i = 0; i < ROWS; i++) t[i] = measure(&rows[i]);
     printf("\nThe least and the most of the places, ns for one sheet:\n");
-    for (int i = 0; i < ROWS; i++) print_spreads(&rows[i], &t[i]);
+    for (int i = 0; i < ROWS; i++) print_spreads(&columns, rows[i].name, &t[i]);
 }
 
 int main(void) {

@@ -2,16 +2,9 @@
 // Both must agree on every operand of the run. Prints ns for one operation and the ratio, for
 // operations that do not depend on each other, and for a chain where each waits for the one before.
 #define ROOTS_OF_DOUBLES
-#include "plain_pair.h"
+#include "pair_calls.h"
 #include "timing.h"
 #include <stdio.h>
-
-u64 pair_floor_of(u64 a, u64 b, u64 d);
-u64 pair_ceil_of(u64 a, u64 b, u64 d);
-Ends pair_times(u64 lo, u64 hi, u64 least, u64 most, u64 s);
-Ends pair_over(u64 lo, u64 hi, u64 least, u64 most, u64 s);
-Ends pair_root(u64 lo, u64 hi, u64 s);
-Ends pair_cube_root(u64 lo, u64 hi, u64 s);
 
 #define ALONE __attribute__((noinline))
 

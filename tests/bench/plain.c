@@ -447,3 +447,17 @@ Answer plain_report(const uint8_t *text, size_t length, uint8_t *buffer, size_t 
     }
     return put_report(&t, buffer, room);
 }
+
+// ---- the table of lip coefficients (request W-203)
+
+Ends plain_k(u64 ratio) { return coefficient_at(ratio); }
+
+Answer plain_table(uint8_t *buffer, size_t room) {
+    char text[HM_LIP_TABLE_LENGTH], *at = text;
+    for (u64 ratio = RATIO_LEAST; ratio <= RATIO_MOST; ratio += RATIO_STEP) {
+        Ends k = coefficient_at(ratio);
+        at = put_ended(at, k.lo, ' ');
+        at = put_ended(at, k.hi, '\n');
+    }
+    return lent(text, at, buffer, room);
+}

@@ -1,5 +1,6 @@
 // The pair operations in plain C: 128-bit integers, each end by itself.
 // (Document 01, "Pairs and the scale".)
+#pragma once
 #include <math.h>
 #include <stdint.h>
 

@@ -6,8 +6,6 @@ enum { ROOM = HM_CERTIFICATE_LONGEST };
 
 typedef struct { u64 n[SHEET_LINES]; } Sheet;
 
-static inline u64 between(u64 least, u64 most) { return least + draw() % (most - least + 1); }
-
 static inline Sheet with(Sheet sheet, int place, u64 value) {
     sheet.n[place] = value;
     return sheet;

@@ -23,5 +23,7 @@ static inline u64 draw(void) {
     return state;
 }
 
+static inline u64 between(u64 least, u64 most) { return least + draw() % (most - least + 1); }
+
 // Takes a sum of the results, so that the compiler leaves nothing out.
 static volatile u64 sink;

@@ -1,9 +1,13 @@
 // Times of several runs, in interleaved turns. Each PLACES runs, which differ only in where their code lies,
 // make a group; the last group may be one run alone.
+#pragma once
 #include "timing.h"
 #include <string.h>
 
 enum { PLACES = 5, TURNS = 41, MOST_GROUPS = 5, MOST_RUNS = MOST_GROUPS * PLACES };
+
+// A macro for each place, with the ending that placed.sh gives to names there.
+#define AT_PLACES(EACH, NAME) EACH(NAME, _0) EACH(NAME, _1) EACH(NAME, _2) EACH(NAME, _3) EACH(NAME, _4)
 
 // One pass of a run over the work.
 typedef void Pass(int run, const void *work);

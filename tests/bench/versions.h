@@ -19,18 +19,20 @@ typedef struct {
     extern FromNumbers NAME##_from_numbers##END; \
     extern Report NAME##_report##END;
 #define ENTRY(NAME, END) \
-    {#NAME #END, NAME##_write##END, NAME##_check##END, NAME##_from_numbers##END, NAME##_report##END}
-#define DECLARE_PLACES(NAME) DECLARE(NAME, _0) DECLARE(NAME, _1) DECLARE(NAME, _2) DECLARE(NAME, _3) DECLARE(NAME, _4)
-#define PLACED(NAME) ENTRY(NAME, _0), ENTRY(NAME, _1), ENTRY(NAME, _2), ENTRY(NAME, _3), ENTRY(NAME, _4)
+    {#NAME #END, NAME##_write##END, NAME##_check##END, NAME##_from_numbers##END, NAME##_report##END},
 
-DECLARE_PLACES(honemagenta)
-DECLARE_PLACES(newton)
-DECLARE_PLACES(bits)
-DECLARE_PLACES(doubles)
+AT_PLACES(DECLARE, honemagenta)
+AT_PLACES(DECLARE, newton)
+AT_PLACES(DECLARE, bits)
+AT_PLACES(DECLARE, doubles)
 DECLARE(reference, )
 
 static const Version versions[] = {
-    PLACED(honemagenta), PLACED(newton), PLACED(bits), PLACED(doubles), ENTRY(reference, ),
+    AT_PLACES(ENTRY, honemagenta)
+    AT_PLACES(ENTRY, newton)
+    AT_PLACES(ENTRY, bits)
+    AT_PLACES(ENTRY, doubles)
+    ENTRY(reference, )
 };
 
 enum { OURS, NEWTON, BITS, DOUBLES, REFERENCE, VERSIONS = REFERENCE * PLACES + 1 };

@@ -1,6 +1,9 @@
 // The calls for programs in other languages; include/honemagenta.h declares them.
 use catalogue::reports;
 use certificate::certificates;
+use lip_table::Coefficient;
+use lip_table::lookups;
+use lip_table::tables;
 use questions::Answer;
 ghost use mathlib.Core.Path.{_≡_};
 ghost use mathlib.Core.List.{[], _∷_};
@@ -10,6 +13,7 @@ ghost use Rattle.questions.specs.Outcomes.{answerOf, answerIn, bufferIn};
 ghost use Rattle.certificate.specs.Refusals.{refusalAnswer};
 ghost use Rattle.catalogue.specs.Outcome.{reportOutcome};
 ghost use Rattle.catalogue.specs.Refusals.{reportAnswer};
+ghost use Rattle.lip_table.specs.Outcome.{lipAnswer, tableOutcome, coefficientAt};
 
 #[no_mangle]
 pub extern "C" fn hm_certificate_write(sheet: &[u8], buffer: &mut [u8]) -> Answer
@@ -61,4 +65,21 @@ pub extern "C" fn hm_catalogue_report(sheets: &[u8], buffer: &mut [u8]) -> Answe
     ensures { λ _. ⌜ now (buffer .exit) ≡ bufferIn (reportOutcome (now (sheets .entry))) (now (buffer .entry)) ⌝ }
 {
     reports::report(sheets, buffer)
+}
+
+// The table of lip coefficients.
+#[no_mangle]
+pub extern "C" fn hm_lip_table(buffer: &mut [u8]) -> Answer
+    ensures { λ a. ⌜ a ≡ answerIn lipAnswer tableOutcome (now (buffer .entry)) ⌝ }
+    ensures { λ _. ⌜ now (buffer .exit) ≡ bufferIn tableOutcome (now (buffer .entry)) ⌝ }
+{
+    tables::write(buffer)
+}
+
+// The two ends between which a lip's coefficient lies, for a ratio in millionths.
+#[no_mangle]
+pub extern "C" fn hm_lip_coefficient(ratio: u64) -> Coefficient
+    ensures { λ r. ⌜ r ≡ coefficientAt ratio ⌝ }
+{
+    lookups::coefficient(ratio)
 }

@@ -1,6 +1,6 @@
 -- What crates above may cite of lines.
-pub use Rattle.lines.proofs.LentParts.{copied, length-over, length-snoc, over-front, over-nothing, over-set, over-sets, part-room, part-written, written-length}
-pub use Rattle.lines.proofs.DecimalLaws.{decimal-length, fixed-length}
+pub use Rattle.lines.proofs.LentParts.{copied, length-over, length-snoc, over-all, over-front, over-nothing, over-set, over-sets, part-room, part-written, written-length}
+pub use Rattle.lines.proofs.DecimalLaws.{decimal-length, fixed-length, length-between}
 pub use Rattle.lines.proofs.LineLaws.{lines-all, lines-join, lines-next, lines-none, lines-room, linesTo, number-line, row-is}
 pub use Rattle.lines.proofs.LineLaws.{noField, noRow, noValue, padded, rowField, rowLine, rows-first, rows-taken, rowsOf}
 pub use Rattle.lines.proofs.SpeltLaws.{letter-spelt, number-spelt, signed-spelt}

@@ -26,6 +26,11 @@ pub over-front : (t b : List ℕ) → take (length t) (over t b) ≡ t
 unfolding over
 over-front t b = take-append-seam t (drop (length t) b)
 
+-- the text fills the buffer
+pub over-all : (t b : List ℕ) → length b ≤ length t → over t b ≡ t
+unfolding over
+over-all t b h = ap (λ (l : List ℕ). t ++ l) (drop-of-length-le b {i = length t} h) ∙ append-nil t
+
 -- one byte
 pub over-first : (x : ℕ) (b : List ℕ) → 0 < length b → set b 0 x ≡ over (x ∷ []) b
 unfolding over

@@ -1,5 +1,6 @@
 //! The calls of the archive, as include/honemagenta.h declares them.
 
+use reference::lip_table::Coefficient;
 use reference::sheet::Numbers;
 use reference::text::Answer;
 use reference::with_sheet_lines;
@@ -20,6 +21,10 @@ extern "C" {
         buffer: *mut u8,
         buffer_len: usize,
     ) -> Answer;
+
+    fn hm_lip_table(buffer: *mut u8, buffer_len: usize) -> Answer;
+
+    fn hm_lip_coefficient(ratio: u64) -> Coefficient;
 }
 
 pub fn write(sheet: &[u8], buffer: &mut [u8]) -> Answer {
@@ -34,6 +39,14 @@ pub fn check(certificate: &[u8]) -> Answer {
 pub fn report(sheets: &[u8], buffer: &mut [u8]) -> Answer {
     let (room, buffer) = (buffer.len(), buffer.as_mut_ptr());
     unsafe { hm_catalogue_report(sheets.as_ptr(), sheets.len(), buffer, room) }
+}
+
+pub fn lip_table(buffer: &mut [u8]) -> Answer {
+    unsafe { hm_lip_table(buffer.as_mut_ptr(), buffer.len()) }
+}
+
+pub fn lip_coefficient(ratio: u64) -> Coefficient {
+    unsafe { hm_lip_coefficient(ratio) }
 }
 
 macro_rules! declare_from_numbers {

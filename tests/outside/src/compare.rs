@@ -3,6 +3,7 @@
 
 use crate::calls;
 use reference::catalogue::{write_report, LONGEST_REPORT};
+use reference::lip_table::{write_table, TABLE_LENGTH};
 use reference::sheet::Numbers;
 use reference::text::{self, Answer, LONGEST_CERTIFICATE, REFUSALS};
 use std::fmt::Write;
@@ -14,6 +15,7 @@ pub enum Call<'a> {
     Check(&'a [u8]),
     FromNumbers(Numbers),
     Report(&'a [u8]),
+    LipTable,
 }
 
 impl Call<'_> {
@@ -21,6 +23,7 @@ impl Call<'_> {
     fn longest(self) -> usize {
         match self {
             Call::Report(_) => LONGEST_REPORT,
+            Call::LipTable => TABLE_LENGTH,
             _ => LONGEST_CERTIFICATE,
         }
     }
@@ -68,8 +71,8 @@ impl Agreed {
     }
 }
 
-/// No certificate and no report is longer than the header's constant, and a buffer
-/// of so many bytes is never too short.
+/// No certificate, no report and no table is longer than the header's constant, and a
+/// buffer of so many bytes is never too short.
 fn fits(answer: Answer, room: usize, longest: usize) -> bool {
     let too_short = answer.refusal == 12 && room >= longest;
     answer.length <= longest as u64 && !too_short
@@ -93,6 +96,7 @@ fn of_archive(call: Call, buffer: &mut [u8]) -> Answer {
         Call::Check(certificate) => calls::check(certificate),
         Call::FromNumbers(numbers) => calls::from_numbers(numbers, buffer),
         Call::Report(sheets) => calls::report(sheets, buffer),
+        Call::LipTable => calls::lip_table(buffer),
     }
 }
 
@@ -102,6 +106,7 @@ fn of_reference(call: Call, buffer: &mut [u8]) -> Answer {
         Call::Check(certificate) => text::check(certificate),
         Call::FromNumbers(numbers) => text::write_from_numbers(numbers, buffer),
         Call::Report(sheets) => write_report(sheets, buffer),
+        Call::LipTable => write_table(buffer),
     }
 }
 
@@ -120,6 +125,7 @@ pub fn pasted(call: Call, room: usize) -> String {
             format!("hm_certificate_from_numbers({numbers}, buffer, {room})\n")
         }
         Call::Report(sheets) => on(&format!("hm_catalogue_report, {buffer}"), sheets),
+        Call::LipTable => format!("hm_lip_table, {buffer}\n"),
     }
 }
 

@@ -1,6 +1,7 @@
 //! Calls the archives of crates honemagenta and pair_c from outside: the
-//! calls for certificates and reports beside the reference, answers and every
-//! byte of the buffers, and the pair operations beside exact results.
+//! calls for certificates, reports and lip coefficients beside the reference,
+//! answers and every byte of the buffers, and the pair operations beside exact
+//! results.
 //!
 //! outside                  in some seconds
 //! outside --long           in some minutes, 200,000 of each sort of random case
@@ -11,6 +12,7 @@ mod catalogues;
 mod compare;
 mod exact;
 mod groups;
+mod lip_tables;
 mod near;
 mod operands;
 mod operations;
@@ -71,7 +73,9 @@ fn run(asked: &Asked) -> Result<(), String> {
         asked.seed
     );
     let operations = pair_operations(asked.seed, count)?;
-    let calls = certificates(asked, count)? + reports(asked.seed, count)?;
+    let calls = certificates(asked, count)?
+        + reports(asked.seed, count)?
+        + lip_coefficients(asked.seed, count)?;
     println!(
         "\noutside: {operations} pair operations and {calls} calls are as they should be, in {:.0} s",
         started.elapsed().as_secs_f64()
@@ -101,7 +105,6 @@ fn certificates(asked: &Asked, count: u64) -> Result<u64, String> {
     let near = near::thresholds(seed, asked.long)?;
     let limits = near::at_limits(seed, if asked.long { 100 } else { 12 });
     let step = if asked.long { 1 } else { 60 };
-    let finer = format!("m = {}", MULTIPLES.map(|m| m.to_string()).join(", "));
     let near_numbers = || near.iter().map(|sheet| sheet.numbers());
     println!(
         "\n{:24} {:>7} {:>8}   calls with refusal 0, 1, .. {REFUSALS}",
@@ -122,7 +125,9 @@ fn certificates(asked: &Asked, count: u64) -> Result<u64, String> {
         ("damaged certificates", &|| {
             groups::damaged_certificates(seed, count)
         }),
-        (&finer, &|| groups::finer_workings(seed, count / 4, &near)),
+        (&multiples(), &|| {
+            groups::finer_workings(seed, count / 4, &near)
+        }),
     ])
 }
 
@@ -141,6 +146,24 @@ fn reports(seed: u64, count: u64) -> Result<u64, String> {
             catalogues::large_catalogues(seed, count / 1000)
         }),
     ])
+}
+
+/// How many calls were tried.
+fn lip_coefficients(seed: u64, count: u64) -> Result<u64, String> {
+    let finer = format!("  {}", multiples());
+    tried(&[
+        ("lips: every room", &lip_tables::every_room),
+        ("  every entry", &lip_tables::every_entry),
+        ("  every ratio, m = 1", &lip_tables::every_ratio),
+        ("  ratios outside", &lip_tables::ratios_outside),
+        (&finer, &|| lip_tables::finer_workings(seed, count)),
+        ("  more places", &|| lip_tables::more_places(seed, count)),
+    ])
+}
+
+/// The scales of the finer workings.
+fn multiples() -> String {
+    format!("m = {}", MULTIPLES.map(|m| m.to_string()).join(", "))
 }
 
 /// Tries groups; how many calls there were.

@@ -2,8 +2,9 @@
 //!
 //! Slow and plain on purpose: wide integers, every intermediate pair kept.
 
-// The working, certificates and reports.
+// The working, certificates, reports and the table of lip coefficients.
 pub mod catalogue;
+pub mod lip_table;
 pub mod pair;
 pub mod rules;
 pub mod sheet;

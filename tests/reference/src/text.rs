@@ -22,7 +22,7 @@ pub const BEHIND_SHEET: u64 = Sheet::LINES as u64 + 1;
 pub const BEHIND_CERTIFICATE: u64 = CERTIFICATE_LINES as u64 + 1;
 
 /// The refusals have the numbers from 1 to this.
-pub const REFUSALS: usize = 15;
+pub const REFUSALS: usize = 16;
 
 /// What a call returns, as include/honemagenta.h has it: 0 or the number of the
 /// refusal, a line and a length.
@@ -36,7 +36,7 @@ pub struct Answer {
 
 impl Answer {
     /// A text of that length is written or passes.
-    fn in_order(length: usize) -> Answer {
+    pub(crate) fn in_order(length: usize) -> Answer {
         Answer {
             refusal: 0,
             line: 0,

@@ -2,6 +2,7 @@
 
 use reference::cases::{each_line_changed, longest_certificate, longest_sheet};
 use reference::catalogue::{LONGEST_REPORT, MOST_SHEETS};
+use reference::lip_table::TABLE_LENGTH;
 use reference::repository::file_text;
 use reference::text::{
     printed, printed_check, read_certificate, read_sheet, BEHIND_CERTIFICATE, BEHIND_SHEET,
@@ -70,6 +71,7 @@ fn the_constants_of_header_code_and_example_are_the_same() {
         ("HM_CERTIFICATE_LONGEST", LONGEST_CERTIFICATE),
         ("HM_REPORT_LONGEST", LONGEST_REPORT),
         ("HM_SHEETS_MOST", MOST_SHEETS),
+        ("HM_LIP_TABLE_LENGTH", TABLE_LENGTH),
     ];
     let certificate = [
         ("LONGEST_CERTIFICATE", LONGEST_CERTIFICATE),
@@ -79,10 +81,12 @@ fn the_constants_of_header_code_and_example_are_the_same() {
         ("LONGEST_REPORT", LONGEST_REPORT),
         ("MOST_SHEETS", MOST_SHEETS),
     ];
+    let lip_table = [("TABLE_LENGTH", TABLE_LENGTH)];
     let python = header.map(|(name, number)| (name.trim_start_matches("HM_"), number));
     let code = ("pub const ", ": usize = ");
     assert_constants("include/honemagenta.h", ("#define ", " "), &header);
     assert_constants("crates/certificate/src/lib.rt", code, &certificate);
     assert_constants("crates/catalogue/src/lib.rt", code, &catalogue);
+    assert_constants("crates/lip_table/src/lib.rt", code, &lip_table);
     assert_constants("examples/honemagenta.py", ("", " = "), &python);
 }

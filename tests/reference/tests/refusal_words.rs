@@ -27,7 +27,7 @@ const PROGRAM: &str = r#"
 #include "honemagenta.h"
 
 int main(void) {
-    for (uint64_t refusal = HM_NOT_REFUSED; refusal <= HM_SHEET_MISSPELT + 1; refusal++)
+    for (uint64_t refusal = HM_NOT_REFUSED; refusal <= HM_OUTSIDE_TABLE + 1; refusal++)
         puts(hm_refusal_words(refusal));
     return 0;
 }

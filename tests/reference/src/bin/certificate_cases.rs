@@ -1,5 +1,5 @@
-//! Makes what crates/certify, verify, survey and certificate_cases read and have to
-//! print, and the sheets, the catalogue and the output of examples/.
+//! Makes what crates/certify, verify, survey, tabulate and certificate_cases read and
+//! have to print, and the sheets, the catalogue and the output of examples/.
 //!
 //! certificate_cases [--write]
 
@@ -8,6 +8,7 @@ use reference::cases::{
 };
 use reference::catalogue::{printed_report, write_report, LONGEST_REPORT};
 use reference::kept::{hold_or_write, Made};
+use reference::lip_table::{coefficient, table_text, write_table, Coefficient, TABLE_LENGTH};
 use reference::named::{SHEET_A, SHEET_B};
 use reference::repository::refusal_words;
 use reference::sheet::Sheet;
@@ -21,6 +22,7 @@ fn main() -> ExitCode {
     program(&mut made, "certify", text_of(SHEET_B), printed);
     program(&mut made, "verify", certificate_of(SHEET_B), printed_check);
     program(&mut made, "survey", example_catalogue(), printed_report);
+    made.file("crates/tabulate/stdout", table_text());
     let texts = certificate_cases(&mut made);
     examples(&mut made);
     hold_or_write("certificate cases", &format!("{texts} texts"), &made)
@@ -94,8 +96,8 @@ fn examples(made: &mut Made) {
     let report = printed_report(catalogue.as_bytes());
     made.file("examples/catalogue.txt", catalogue);
     made.file("examples/catalogue_report.txt", report);
-    let output = [certificate_output(), report_output()].concat();
-    made.file("examples/output.txt", output);
+    let output = [certificate_output(), report_output(), lip_output()];
+    made.file("examples/output.txt", output.concat());
 }
 
 /// What examples/certificate.c and honemagenta.py print of certificates.
@@ -129,6 +131,25 @@ fn report_output() -> String {
         in_words("Report without the last byte", write(cut)),
     ]
     .concat()
+}
+
+/// What they print of lip coefficients.
+fn lip_output() -> String {
+    let written = write_table(&mut [0; TABLE_LENGTH]);
+    [
+        in_words("Table of lip coefficients", written),
+        looked_up("Lip coefficient at 0.412345", coefficient(412_345)),
+        looked_up("Lip coefficient at 0.610000", coefficient(610_000)),
+    ]
+    .concat()
+}
+
+/// A coefficient in the words of the examples.
+fn looked_up(what: &str, k: Coefficient) -> String {
+    match k.answer.refusal {
+        0 => format!("{what}: {} to {} millionths\n", k.lower, k.upper),
+        _ => in_words(what, k.answer),
+    }
 }
 
 /// An answer in the words of the examples.

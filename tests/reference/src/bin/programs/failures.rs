@@ -10,9 +10,15 @@ use std::os::unix::net::UnixStream;
 use std::path::Path;
 use std::process::{Command, Output};
 
-/// Nothing is printed, and one line says that the input could not be read.
+/// Nothing is printed, and one line says that the input could not be read. A program that
+/// does not read prints what it prints for any input.
 pub fn unreadable(program: &Program, tally: &mut Tally) {
     let line = format!("{}: the input could not be read\n", program.name);
+    let always = (program.prints)(b"");
+    let expected = match program.reads {
+        true => ("", &*line),
+        false => (&*always, ""),
+    };
     let text = (program.takes)(SHEET_B);
     let half = &text[..text.len() / 2];
     for (what, seen) in [
@@ -22,7 +28,7 @@ pub fn unreadable(program: &Program, tally: &mut Tally) {
         ("half a text has come", waiting(program, half)),
         ("a text has come, and no end", waiting(program, &text)),
     ] {
-        tally.hold(program, what, seen, ("", &line));
+        tally.hold(program, what, seen, expected);
     }
 }
 

@@ -1,9 +1,9 @@
-//! Runs the programs certify, verify and survey as a user would, and compares what
-//! they print with what the reference says, byte for byte:
+//! Runs the programs certify, verify, survey and tabulate as a user would, and compares
+//! what they print with what the reference says, byte for byte:
 //!
 //! programs FOLDER
 //!
-//! FOLDER is where the three programs are.
+//! FOLDER is where the four programs are.
 
 mod catalogues;
 mod failures;
@@ -12,6 +12,8 @@ mod texts;
 
 use reference::cases::{certificate_of, text_of};
 use reference::catalogue::printed_report;
+use reference::lip_table::table_text;
+use reference::sheet::Sheet;
 use reference::text::{printed, printed_check};
 use run::{fed, fed_endlessly, from_file, Program, Tally};
 use std::path::Path;
@@ -34,29 +36,29 @@ fn main() -> ExitCode {
     }
 }
 
-fn programs(folder: &Path) -> [Program; 3] {
-    let certify = Program {
-        name: "certify",
-        path: folder.join("certify"),
-        takes: text_of,
-        prints: printed,
-        own: Vec::new,
-    };
-    let verify = Program {
-        name: "verify",
-        path: folder.join("verify"),
-        takes: certificate_of,
-        prints: printed_check,
+fn programs(folder: &Path) -> [Program; 4] {
+    let program = |name, takes: fn(Sheet) -> String, prints: fn(&[u8]) -> String| Program {
+        name,
+        path: folder.join(name),
+        reads: true,
+        takes,
+        prints,
         own: Vec::new,
     };
     let survey = Program {
-        name: "survey",
-        path: folder.join("survey"),
-        takes: catalogues::catalogue_of,
-        prints: printed_report,
         own: catalogues::all,
+        ..program("survey", catalogues::catalogue_of, printed_report)
     };
-    [certify, verify, survey]
+    let tabulate = Program {
+        reads: false,
+        ..program("tabulate", text_of, |_| table_text())
+    };
+    [
+        program("certify", text_of, printed),
+        program("verify", certificate_of, printed_check),
+        survey,
+        tabulate,
+    ]
 }
 
 /// All programs at a time.

@@ -25,6 +25,8 @@ const ENOUGH: usize = 10;
 pub struct Program {
     pub name: &'static str,
     pub path: PathBuf,
+    /// Whether it reads its input. One that does not is given the same texts.
+    pub reads: bool,
     /// The text of a sheet that is accepted.
     pub takes: fn(Sheet) -> String,
     /// What the reference says that it prints, for a text of any length.
@@ -157,7 +159,9 @@ impl Tally {
     pub fn report(self) -> ExitCode {
         let Tally { runs, faults } = self;
         if faults.is_empty() {
-            println!("programs: {runs} runs of certify, verify and survey, as the reference says");
+            println!(
+                "programs: {runs} runs of certify, verify, survey and tabulate, as the reference says"
+            );
             return ExitCode::SUCCESS;
         }
         for fault in &faults {

@@ -1,0 +1,4 @@
+pub mod Tables
+pub mod Forms
+pub mod Outcome
+pub mod Promises
