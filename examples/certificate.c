@@ -12,14 +12,15 @@
 
 #include "honemagenta.h"
 
-/* A sheet as text: twelve lines, each ended by a newline. Lengths are in 0.01 mm. With allow=0 the
- * area would have to be given without any rounding, which this one cannot. */
-#define UP_TO_ALLOW \
-    "form=C\nh=20000\nb1=7400\nb2=6600\nc=2080\nr=300\ntnom=200\nt=196\nfyb=350\ngm0=1000\nrounds=1\n"
-static const char sheet[] = UP_TO_ALLOW "allow=0\n";
+/* A sheet as text: thirteen lines, each ended by a newline. Lengths are in 0.01 mm. allow=1 asks for
+ * the area to 0.01 mm2. Worked with fine=1 it cannot be given so closely, with fine=10 it can. */
+#define UP_TO_FINE \
+    "form=C\nh=20000\nb1=7400\nb2=6600\nc=2080\nr=300\ntnom=200\nt=196\nfyb=350\ngm0=1000\nrounds=1\nallow=1\n"
+static const char coarse_sheet[] = UP_TO_FINE "fine=1\n";
+static const char fine_sheet[] = UP_TO_FINE "fine=10\n";
 
 /* A catalogue: sheets joined end to end. */
-static const char catalogue[] = UP_TO_ALLOW "allow=0\n" UP_TO_ALLOW "allow=10\n";
+static const char catalogue[] = UP_TO_FINE "fine=1\n" UP_TO_FINE "fine=10\n";
 
 /* A call answers three numbers: refusal is 0, or the number of the question that is not met. Of a
  * catalogue, line may be the place of a sheet. */
@@ -36,9 +37,14 @@ static void say(const char *what, hm_answer answer) {
                (unsigned long long)answer.line, words);
 }
 
-/* The same sheet as twelve numbers, and allow 10: the area may be off by 0.1 mm2. */
+/* The certificate of a sheet's text. */
+static hm_answer from_text(const char *sheet, uint8_t *buffer, size_t room) {
+    return hm_certificate_write((const uint8_t *)sheet, strlen(sheet), buffer, room);
+}
+
+/* The same sheet as thirteen numbers, with allow 10 and fine 1: the area may be off by 0.1 mm2. */
 static hm_answer from_numbers(uint8_t *buffer, size_t room) {
-    return hm_certificate_from_numbers(HM_FORM_C, 20000, 7400, 6600, 2080, 300, 200, 196, 350, 1000, 1, 10, buffer,
+    return hm_certificate_from_numbers(HM_FORM_C, 20000, 7400, 6600, 2080, 300, 200, 196, 350, 1000, 1, 10, 1, buffer,
                                        room);
 }
 
@@ -82,7 +88,7 @@ int main(void) {
     uint8_t buffer[HM_CERTIFICATE_LONGEST];
 
     hm_answer written = from_numbers(buffer, sizeof buffer);
-    say("Certificate from twelve numbers", written);
+    say("Certificate from thirteen numbers", written);
     if (written.refusal != HM_NOT_REFUSED)
         return 1;
 
@@ -92,13 +98,13 @@ int main(void) {
     /* Whoever is handed the certificate can check it. */
     say("Checked", hm_certificate_check(buffer, (size_t)written.length));
 
-    /* Its last digit changed, it is no longer the one that follows from its first twelve lines. */
+    /* Its last digit changed, it is no longer the one that follows from its first thirteen lines. */
     buffer[written.length - 2] ^= 1;
     say("Checked with a digit changed", hm_certificate_check(buffer, (size_t)written.length));
 
     /* From text. What is refused leaves the buffer as it was. */
-    say("Certificate of the sheet with allow=0",
-        hm_certificate_write((const uint8_t *)sheet, strlen(sheet), buffer, sizeof buffer));
+    say("Certificate of the sheet with allow=1", from_text(coarse_sheet, buffer, sizeof buffer));
+    say("Certificate of the same with fine=10", from_text(fine_sheet, buffer, sizeof buffer));
 
     /* A buffer that is too short is not written to either, and the length needed is reported. */
     say("Certificate in a buffer of 100 bytes", from_numbers(buffer, 100));

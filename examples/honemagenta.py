@@ -24,7 +24,7 @@ FORM_C = 0
 FORM_Z = 1
 
 # A buffer of so many bytes takes every certificate.
-CERTIFICATE_LONGEST = 273
+CERTIFICATE_LONGEST = 289
 
 # A catalogue has at most so many sheets, and a buffer of so many bytes takes every report.
 SHEETS_MOST = 1000
@@ -34,7 +34,7 @@ REPORT_LONGEST = 27088
 LIP_TABLE_LENGTH = 3514
 
 # A sheet's lines.
-KEYS = ("form", "h", "b1", "b2", "c", "r", "tnom", "t", "fyb", "gm0", "rounds", "allow")
+KEYS = ("form", "h", "b1", "b2", "c", "r", "tnom", "t", "fyb", "gm0", "rounds", "allow", "fine")
 
 # What is wrong, as README.md's table has it; there too: which line is reported, and what to do.
 REFUSALS = {
@@ -51,7 +51,7 @@ REFUSALS = {
     10: "the lips of a C would overlap: 2 c is more than h",
     11: "the area cannot be given as closely as allow asks",
     12: "the buffer is too short",
-    13: "a figure is not the one worked from the first twelve lines",
+    13: "a figure is not the one worked from the first thirteen lines",
     14: "there are no sheets, or more than 1,000",
     15: "a sheet of the catalogue is missing lines or misspelt",
     16: "the ratio is outside 0.350 to 0.600",
@@ -105,7 +105,7 @@ class Honemagenta:
         self._lip_coefficient = library.hm_lip_coefficient
         self._write.argtypes = [c_char_p, c_size_t, c_char_p, c_size_t]
         self._check.argtypes = [c_char_p, c_size_t]
-        self._from_numbers.argtypes = [c_uint64] * 12 + [c_char_p, c_size_t]
+        self._from_numbers.argtypes = [c_uint64] * len(KEYS) + [c_char_p, c_size_t]
         self._report.argtypes = [c_char_p, c_size_t, c_char_p, c_size_t]
         self._lip_table.argtypes = [c_char_p, c_size_t]
         self._lip_coefficient.argtypes = [c_uint64]
@@ -117,9 +117,9 @@ class Honemagenta:
         """The certificate of a sheet, both as bytes, written into a buffer of so many bytes."""
         return _written(self._write, *_lent(sheet), room=room)
 
-    def from_numbers(self, form, h, b1, b2, c, r, tnom, t, fyb, gm0, rounds, allow, room=CERTIFICATE_LONGEST):
-        """The same from the twelve numbers of a sheet, the form being FORM_C or FORM_Z."""
-        numbers = (form, h, b1, b2, c, r, tnom, t, fyb, gm0, rounds, allow)
+    def from_numbers(self, form, h, b1, b2, c, r, tnom, t, fyb, gm0, rounds, allow, fine, room=CERTIFICATE_LONGEST):
+        """The same from the thirteen numbers of a sheet, the form being FORM_C or FORM_Z and fine 1 or 10."""
+        numbers = (form, h, b1, b2, c, r, tnom, t, fyb, gm0, rounds, allow, fine)
         _refuse_wide(KEYS, numbers)
         return _written(self._from_numbers, *numbers, room=room)
 
@@ -178,6 +178,11 @@ def _in_words(result):
     return f"in order, {result if isinstance(result, int) else len(result)} bytes"
 
 
+def _sheet_text(values):
+    """The lines of a sheet, as bytes."""
+    return "".join(f"{key}={value}\n" for key, value in zip(KEYS, values)).encode("ascii")
+
+
 def _demonstrate(path):
     library = Honemagenta(path)
 
@@ -191,30 +196,31 @@ def _demonstrate(path):
         print(f"{what}: {_in_words(result)}")
         return result
 
-    # Lengths are in 0.01 mm. The last number, allow, says that the area may be off by 0.1 mm².
-    numbers = [FORM_C, 20000, 7400, 6600, 2080, 300, 200, 196, 350, 1000, 1, 10]
-    certificate = said("Certificate from twelve numbers", library.from_numbers, *numbers)
+    # Lengths are in 0.01 mm. The last but one, allow, says that the area may be off by 0.1 mm²; the last is fine.
+    numbers = [FORM_C, 20000, 7400, 6600, 2080, 300, 200, 196, 350, 1000, 1, 10, 1]
+    certificate = said("Certificate from thirteen numbers", library.from_numbers, *numbers)
     print(certificate.decode("ascii"), end="")
 
     # Whoever is handed the certificate can check it. With a digit changed it is no longer the one that follows from its
-    # first twelve lines.
+    # first thirteen lines.
     said("Checked", library.check, certificate)
     changed = bytearray(certificate)
     changed[-2] ^= 1
     said("Checked with a digit changed", library.check, changed)
 
-    # From text, twelve lines, each ended by a newline. With allow=0 the area would have to be given without any rounding,
-    # which this one cannot.
-    values = ["C"] + numbers[1:11] + [0]
-    sheet = "".join(f"{key}={value}\n" for key, value in zip(KEYS, values))
-    said("Certificate of the sheet with allow=0", library.write, sheet.encode("ascii"))
+    # From text, thirteen lines, each ended by a newline. allow=1 asks for the area to 0.01 mm². Worked with fine=1 it
+    # cannot be given so closely, with fine=10 it can.
+    up_to_fine = ["C"] + numbers[1:11] + [1]
+    coarse, fine = (_sheet_text(up_to_fine + [fine]) for fine in (1, 10))
+    said("Certificate of the sheet with allow=1", library.write, coarse)
+    said("Certificate of the same with fine=10", library.write, fine)
 
     # A buffer that is too short is not written to, and the length needed is reported.
     said("Certificate in a buffer of 100 bytes", library.from_numbers, *numbers, room=100)
 
     # A catalogue is sheets joined end to end. Its report says how many are accepted and how many each question refuses,
     # both sums, and a line for each accepted sheet. A catalogue that breaks off is not reported on.
-    catalogue = (sheet + sheet.replace("allow=0", "allow=10")).encode("ascii")
+    catalogue = coarse + fine
     report = said("Report on a catalogue of two sheets", library.report, catalogue)
     print(report.decode("ascii"), end="")
     said("Report without the last byte", library.report, catalogue[:-1])

@@ -31,7 +31,7 @@
 #include <stdint.h>
 
 /* A buffer of so many bytes takes every certificate. */
-#define HM_CERTIFICATE_LONGEST 273
+#define HM_CERTIFICATE_LONGEST 289
 
 /* A catalogue has at most so many sheets, and a buffer of so many bytes takes every report. */
 #define HM_SHEETS_MOST 1000
@@ -66,8 +66,8 @@ typedef struct hm_coefficient {
 /* The refusals, each with the line that is reported; hm_refusal_words says what is wrong. */
 enum hm_refusal {
     HM_NOT_REFUSED = 0,           /* line 0 */
-    HM_MISSPELT = 1,              /* 1 to 19, the first such line; 13 for bytes behind a sheet, 19 behind a certificate */
-    HM_OUT_OF_RANGE = 2,          /* 1 to 12, the first such value; 1, the form, only from numbers */
+    HM_MISSPELT = 1,              /* 1 to 20, the first such line; 14 for bytes behind a sheet, 20 behind a certificate */
+    HM_OUT_OF_RANGE = 2,          /* 1 to 13, the first such value; 1, the form, only from numbers */
     HM_CORE_TOO_THICK = 3,        /* 8, t */
     HM_FLANGE_TOO_WIDE = 4,       /* 3 or 4, b1 or b2 */
     HM_LIP_TOO_LONG = 5,          /* 5, c */
@@ -78,7 +78,7 @@ enum hm_refusal {
     HM_LIPS_OVERLAP = 10,         /* 5, c */
     HM_ALLOWANCE_EXCEEDED = 11,   /* 12, allow */
     HM_BUFFER_TOO_SHORT = 12,     /* 0; length is the length needed */
-    HM_WRONG_FIGURE = 13,         /* 13 to 18, the first such figure; only when checking */
+    HM_WRONG_FIGURE = 13,         /* 14 to 19, the first such figure; only when checking */
     HM_WRONG_SHEET_COUNT = 14,    /* 0; only of a catalogue */
     HM_SHEET_MISSPELT = 15,       /* 1 to 1000, the place of the first such sheet; only of a catalogue */
     HM_OUTSIDE_TABLE = 16         /* 0; only of a coefficient */
@@ -100,7 +100,7 @@ static inline const char *hm_refusal_words(uint64_t refusal) {
     case HM_LIPS_OVERLAP: return "the lips of a C would overlap: 2 c is more than h";
     case HM_ALLOWANCE_EXCEEDED: return "the area cannot be given as closely as allow asks";
     case HM_BUFFER_TOO_SHORT: return "the buffer is too short";
-    case HM_WRONG_FIGURE: return "a figure is not the one worked from the first twelve lines";
+    case HM_WRONG_FIGURE: return "a figure is not the one worked from the first thirteen lines";
     case HM_WRONG_SHEET_COUNT: return "there are no sheets, or more than 1,000";
     case HM_SHEET_MISSPELT: return "a sheet of the catalogue is missing lines or misspelt";
     case HM_OUTSIDE_TABLE: return "the ratio is outside 0.350 to 0.600";
@@ -108,20 +108,23 @@ static inline const char *hm_refusal_words(uint64_t refusal) {
     }
 }
 
-/* Writes the certificate of a sheet, twelve lines key=value, to the start of the buffer. */
+/* Writes the certificate of a sheet, thirteen lines key=value, to the start of the buffer. */
 hm_answer hm_certificate_write(const uint8_t *sheet, size_t sheet_len, uint8_t *buffer, size_t buffer_len);
 
-/* Checks a certificate, eighteen lines: it passes if it is the one that is written for its own sheet. */
+/* Checks a certificate, nineteen lines: it passes if it is the one that is written for its own sheet. */
 hm_answer hm_certificate_check(const uint8_t *certificate, size_t certificate_len);
 
-/* The same as hm_certificate_write, from the twelve numbers of a sheet; form is HM_FORM_C or HM_FORM_Z. */
+/*
+ * The same as hm_certificate_write, from the thirteen numbers of a sheet. form is HM_FORM_C or HM_FORM_Z; fine is 1 or
+ * 10, and with 10 the section is worked to one decimal more, for an allow that refusal 11 says is too close.
+ */
 hm_answer hm_certificate_from_numbers(uint64_t form, uint64_t h, uint64_t b1, uint64_t b2, uint64_t c, uint64_t r,
                                       uint64_t tnom, uint64_t t, uint64_t fyb, uint64_t gm0, uint64_t rounds,
-                                      uint64_t allow, uint8_t *buffer, size_t buffer_len);
+                                      uint64_t allow, uint64_t fine, uint8_t *buffer, size_t buffer_len);
 
 /*
  * Writes the report on a catalogue, 1 to 1,000 sheets joined end to end, to the start of the buffer. Each run of
- * twelve lines is one sheet, and a shorter rest one that is cut short. One number to a line, the report has the
+ * thirteen lines is one sheet, and a shorter rest one that is cut short. One number to a line, the report has the
  * number of sheets, of those accepted, of those under each refusal from 2 to 11, the sum of the accepted ones' areas
  * and that of their axial resistances; then a line for each accepted sheet, in the catalogue's order: its place from
  * 1, its area and its axial resistance, one blank between. The call takes some 25 KB of stack.

@@ -84,7 +84,7 @@ certified ./-z 'sheet a .txt' sheet_b.txt
 
 begin 'again, by paths'
 mkdir 'a folder'
-cp "$examples/sheet_a.txt" "$examples/sheet_b.txt" 'a folder'
+cp "$examples/sheet_a.txt" "$examples/sheet_b.txt" "$examples/fine.txt" 'a folder'
 run 0 'a folder'/*
 echo old >'a folder/sheet_a.txt.certificate'
 run 0 'a folder'/*.txt
@@ -155,7 +155,7 @@ fails_with 'nothing printed' certify 'certify printed neither*' <<<':'
 fails_with 'something on standard error' certify 'oh' <<<"$real/certify; echo oh >&2"
 fails_with 'a status' certify '*' <<<"$real/certify; exit 3"
 fails_with 'ended by a signal' certify '*' <<<"$real/certify; kill -KILL \$\$"
-fails_with 'another length' verify 'what was written does not pass: passed=161' <<<'echo passed=161'
+fails_with 'another length' verify 'what was written does not pass: passed=168' <<<'echo passed=168'
 fails_with 'verify refuses' verify 'what was written does not pass: refused=13' <<<'echo refused=13'
 fails_with 'verify says nothing' verify 'what was written does not pass: ' <<<':'
 

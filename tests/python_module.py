@@ -15,8 +15,9 @@ from honemagenta import (
     refusal_words,
 )
 
-SHEET_B = (FORM_C, 20000, 7400, 6600, 2080, 300, 200, 196, 350, 1000, 1, 10)
+SHEET_B = (FORM_C, 20000, 7400, 6600, 2080, 300, 200, 196, 350, 1000, 1, 10, 1)
 ALLOW = KEYS.index("allow")
+FINE = KEYS.index("fine")
 
 
 def raised(kind, call, *arguments, **named):
@@ -68,6 +69,8 @@ def certificates(library, sheet):
     assert library.check(certificate) == len(certificate)
     z_section = library.from_numbers(*with_number(0, FORM_Z))
     assert z_section.startswith(b"form=Z\n") and library.check(z_section) == len(z_section)
+    fine = contents("crates/certificate_cases/data/certificates/fine_b")
+    assert library.from_numbers(*with_number(FINE, 10)) == fine and library.check(fine) == len(fine)
 
     # Refusals, with their words.
     refuses(1, 1, 0, library.write, b"")
@@ -75,6 +78,9 @@ def certificates(library, sheet):
     refuses(1, len(KEYS) + 1, 0, library.check, sheet)
     refuses(2, 1, 0, library.from_numbers, *with_number(0, 2))
     refuses(2, 2, 0, library.from_numbers, *with_number(1, 2**64 - 1))
+    for number in (0, 2, 9, 11, 100, 2**64 - 1):
+        refuses(2, FINE + 1, 0, library.from_numbers, *with_number(FINE, number))
+    refuses(1, FINE + 1, 0, library.write, sheet.replace(b"fine=1\n", b""))
     refuses(11, ALLOW + 1, 0, library.from_numbers, *with_number(ALLOW, 0))
     last = certificate.count(b"\n")
     refuses(13, last, 0, library.check, certificate.replace(b"shifthi=", b"shifthi=9"))

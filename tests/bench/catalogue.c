@@ -5,7 +5,7 @@
 #include "columns.h"
 #include "sheets.h"
 
-enum { POOL = 3000, SMALL = 400, ROWS = 4 };
+enum { POOL = 3000, SMALL = 400, ROWS = 5 };
 
 // Sheets joined end to end, and where each of them begins; the last one ends where another would begin.
 typedef struct {
@@ -186,13 +186,15 @@ static Sheet refused_sheet(void) {
     }
 }
 
-static Catalogue all_accepted, third_refused;
+static Catalogue all_accepted, third_refused, all_fine;
 
+// Accepted sheets with fine=1, a third of them replaced by refused ones, and all of them with fine=10.
 static void fill_catalogues(void) {
     static Sheet sheets[HM_SHEETS_MOST];
-    for (int i = 0; i < HM_SHEETS_MOST; i++) sheets[i] = with(accepted_sheet(i % 2), ROUNDS, 3);
+    for (int i = 0; i < HM_SHEETS_MOST; i++) sheets[i] = with(with(accepted_sheet(i % 2), ROUNDS, 3), FINE, 1);
     for (int i = 0; i < HM_SHEETS_MOST; i++) append(&all_accepted, sheets[i]);
     for (int i = 0; i < HM_SHEETS_MOST; i++) append(&third_refused, i % 3 == 2 ? refused_sheet() : sheets[i]);
+    for (int i = 0; i < HM_SHEETS_MOST; i++) append(&all_fine, with(sheets[i], FINE, 10));
 }
 
 static Times measure(const Work *w) {
@@ -208,9 +210,10 @@ static void times(void) {
         {"100 sheets", &all_accepted, 100},
         {"1,000 sheets", &all_accepted, HM_SHEETS_MOST},
         {"1,000 sheets, a third refused", &third_refused, HM_SHEETS_MOST},
+        {"1,000 sheets, fine=10", &all_fine, HM_SHEETS_MOST},
     };
     Times t[ROWS];
-    printf("%d accepted sheets over the whole ranges, both forms, half of them with equal flanges, rounds=3, in\n"
+    printf("%d accepted sheets over the whole ranges, both forms, half of them with equal flanges, rounds=3, fine=1, in\n"
            "reports of so many. One buffer is lent to all calls and not cleared between them, %d bytes to a report\n"
            "and %d to hm_certificate_write, which is called for each sheet. But for the first column ns for one\n"
            "sheet: the median of %d interleaved turns, then of %d places of the code in memory; behind it the ratio\n"
@@ -228,6 +231,7 @@ int main(void) {
     agree();
     agree_on(&all_accepted);
     agree_on(&third_refused);
+    agree_on(&all_fine);
     print_agreement();
     times();
     return 0;

@@ -9,7 +9,7 @@ static const char *const group_names[GROUPS] = {
     "this program", "C, roots by Newton", "C, roots by bits", "C, roots of doubles", "reference",
 };
 
-static const Sheet SHEET_B = {{0, 20000, 7400, 6600, 2080, 300, 200, 196, 350, 1000, 3, 10}};
+static const Sheet SHEET_B = {{0, 20000, 7400, 6600, 2080, 300, 200, 196, 350, 1000, 3, 10, 1}};
 
 // ---- agreement
 
@@ -135,17 +135,18 @@ static Times measure(const Work *w) {
 
 static Sheet sheets[SHEETS];
 
-static Work *on_numbers(const char *name, u64 rounds, u64 allow) {
+static Work *on_numbers(const char *name, u64 fine, u64 rounds, u64 allow) {
     static Work w;
     w.name = name;
     w.call = FROM_NUMBERS;
     w.count = SHEETS;
-    for (int i = 0; i < SHEETS; i++) w.sheets[i] = with(with(sheets[i], ROUNDS, rounds), ALLOW, allow);
+    for (int i = 0; i < SHEETS; i++)
+        w.sheets[i] = with(with(with(sheets[i], FINE, fine), ROUNDS, rounds), ALLOW, allow);
     return &w;
 }
 
-static Work *on_texts(const char *name, Call call) {
-    Work *w = on_numbers(name, 3, 1000);
+static Work *on_texts(const char *name, u64 fine, Call call) {
+    Work *w = on_numbers(name, fine, 3, 1000);
     w->call = call;
     for (int i = 0; i < SHEETS; i++) {
         Sheet sheet = w->sheets[i];
@@ -155,8 +156,8 @@ static Work *on_texts(const char *name, Call call) {
 }
 
 // Every line in its turn is out of range.
-static Work *refused_at_question_2(const char *name) {
-    Work *w = on_numbers(name, 3, 1000);
+static Work *refused_at_question_2(const char *name, u64 fine) {
+    Work *w = on_numbers(name, fine, 3, 1000);
     for (int i = 0; i < SHEETS; i++) w->sheets[i] = out_of_range(w->sheets[i], i % SHEET_LINES);
     return w;
 }
@@ -173,30 +174,27 @@ static Work *only(int (*so)(Sheet), Work *w) {
     return w;
 }
 
-static Work *sheet_b_alone(const char *name) {
-    Work *w = on_numbers(name, 3, 1000);
+static Work *sheet_b_alone(const char *name, u64 fine) {
+    Work *w = on_numbers(name, fine, 3, 1000);
     w->count = 1;
-    w->sheets[0] = SHEET_B;
+    w->sheets[0] = with(SHEET_B, FINE, fine);
     return w;
 }
 
-static void times(void) {
-    printf("%d accepted sheets over the whole ranges, both forms, half of them with equal flanges. One buffer of %d bytes is\n"
-           "lent to all calls and not cleared between them. ns for one call: the median of %d interleaved turns, then of %d\n"
-           "places of the code in memory, with the least and the most; behind it the ratio of this program to that version.\n\n",
-           SHEETS, ROOM, TURNS, PLACES);
-    printf("%-23s%21s", "", group_names[OURS]);
+// The table at one scale.
+static void times_at(u64 fine) {
+    printf("\nfine=%-18llu%21s", (unsigned long long)fine, group_names[OURS]);
     for (int g = NEWTON; g < REFERENCE; g++) printf("%21s ratio", group_names[g]);
     printf("  refer. ratio\n");
-    Times none = measure(on_numbers("rounds=0", 0, 1000));
-    Times three = measure(on_numbers("rounds=3", 3, 1000));
-    Times eight = measure(on_numbers("rounds=8", 8, 1000));
-    measure(only(unequal_flanges, on_numbers("unequal, rounds=3", 3, 1000)));
-    measure(sheet_b_alone("sheet B alone, rounds=3"));
-    measure(on_texts("from text, rounds=3", WRITE));
-    measure(on_texts("check, rounds=3", CHECK));
-    measure(refused_at_question_2("refusal at question 2"));
-    measure(only(not_allowed, on_numbers("refusal at question 11", 3, 0)));
+    Times none = measure(on_numbers("rounds=0", fine, 0, 1000));
+    Times three = measure(on_numbers("rounds=3", fine, 3, 1000));
+    Times eight = measure(on_numbers("rounds=8", fine, 8, 1000));
+    measure(only(unequal_flanges, on_numbers("unequal, rounds=3", fine, 3, 1000)));
+    measure(sheet_b_alone("sheet B alone, rounds=3", fine));
+    measure(on_texts("from text, rounds=3", fine, WRITE));
+    measure(on_texts("check, rounds=3", fine, CHECK));
+    measure(refused_at_question_2("refusal at question 2", fine));
+    measure(only(not_allowed, on_numbers("refusal at question 11", fine, 3, 0)));
     printf("\nns for a refining round, from 0 to 8 (from 0 to 3):");
     for (int g = 0; g < GROUPS; g++)
         printf("%s %s %.0f (%.0f)", g ? ";" : "", group_names[g], (group_ns(&eight, g) - group_ns(&none, g)) / 8,
@@ -204,19 +202,28 @@ static void times(void) {
     printf("\n");
 }
 
+static void times(void) {
+    printf("%d accepted sheets over the whole ranges, both forms, half of them with equal flanges. One buffer of %d bytes is\n"
+           "lent to all calls and not cleared between them. ns for one call: the median of %d interleaved turns, then of %d\n"
+           "places of the code in memory, with the least and the most; behind it the ratio of this program to that version.\n",
+           SHEETS, ROOM, TURNS, PLACES);
+    times_at(RANGES[FINE].first);
+    times_at(RANGES[FINE].second);
+}
+
 // For a profile: certificates with 3 rounds by one version alone.
-static void repeat(const char *name, int passes) {
-    Work *w = on_numbers(name, 3, 1000);
+static void repeat(const char *name, int passes, u64 fine) {
+    Work *w = on_numbers(name, fine, 3, 1000);
     for (int v = 0; v < VERSIONS; v++)
         if (strcmp(versions[v].name, name) == 0) printf("%s: %.0f ns\n", name, timed(pass, v, w, passes) / w->count);
 }
 
-// certificates                  agreement, then the table of times
-// certificates VERSION PASSES   one version alone, as honemagenta_0
+// certificates                       agreement, then the tables of times
+// certificates VERSION PASSES FINE   one version alone at one scale, as honemagenta_0 1 10
 int main(int count, char **words) {
     for (int i = 0; i < SHEETS; i++) sheets[i] = accepted_sheet(i % 2);
-    if (count == 3) {
-        repeat(words[1], atoi(words[2]));
+    if (count == 4) {
+        repeat(words[1], atoi(words[2]), (u64)atoi(words[3]));
         return 0;
     }
     agree();

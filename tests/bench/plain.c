@@ -6,8 +6,6 @@
 typedef __int128 i128;
 typedef int64_t i64;
 
-#define S 1000000u
-
 // Key and type of a certificate's further lines, in order.
 #define FIGURES(LINE) \
     LINE(area, u64) LINE(axial, u64) LINE(chi1, u64) LINE(chi2, u64) LINE(shiftlo, i64) LINE(shifthi, i64)
@@ -17,27 +15,32 @@ typedef int64_t i64;
 // From place SHIFTS on, a value may be below zero.
 enum { LINES = SHEET_LINES FIGURES(ONE), SHIFTS = LINES - 2 };
 
-#define NUMBER(key, place, least, most) u64 key;
+#define NUMBER(key, ...) u64 key;
 #define FIGURE(key, type) type key;
 typedef struct { SHEET(NUMBER) } Sheet;
 typedef struct { FIGURES(FIGURE) } Figures;
 
 // What they have, in order.
-#define OF_SHEET(key, place, least, most) (i64)sheet->key,
+#define OF_SHEET(key, ...) (i64)sheet->key,
 #define OF_FIGURES(key, type) (i64)f->key,
 
 static Answer refused(u64 number, u64 line) { return (Answer){number, line, 0}; }
 static Answer in_order(size_t length) { return (Answer){0, 0, length}; }
 
-// ---- pairs
+// ---- pairs, in units of 1/(n * 1,000,000): n is the sheet's line fine
 
-static inline Ends exact(u64 a, u64 b) { return (Ends){a * S / b, a * S / b}; }
-static inline Ends whole(u64 a) { return exact(a, 1); }
+#define MILLION 1000000u
+
+// Compiled for each scale by itself, n being a constant: faster than with a scale that is read.
+#define AT_SCALE static inline __attribute__((always_inline))
+
+static inline Ends exact(u64 a, u64 b, u64 n) { return (Ends){a * (n * MILLION) / b, a * (n * MILLION) / b}; }
+static inline Ends whole(u64 a, u64 n) { return exact(a, 1, n); }
 static inline Ends plus(Ends p, Ends q) { return ends_plus(p, q); }
 static inline Ends minus(Ends p, Ends q) { return ends_minus(p, q); }
-static inline Ends times(Ends p, Ends q) { return ends_times(p, q, S); }
-static inline Ends over(Ends p, Ends q) { return ends_over(p, q, S); }
-static inline Ends root(Ends p) { return ends_root(p, S); }
+static inline Ends times(Ends p, Ends q, u64 n) { return ends_times(p, q, n * MILLION); }
+static inline Ends over(Ends p, Ends q, u64 n) { return ends_over(p, q, n * MILLION); }
+static inline Ends root(Ends p, u64 n) { return ends_root(p, n * MILLION); }
 
 static inline u64 smaller(u64 a, u64 b) { return a < b ? a : b; }
 static inline u64 larger(u64 a, u64 b) { return a < b ? b : a; }
@@ -45,14 +48,14 @@ static inline u64 larger(u64 a, u64 b) { return a < b ? b : a; }
 // Pairs that may lie below zero: the distance of the neutral axis, and what it is made of.
 typedef struct { i64 lo, hi; } SignedEnds;
 
-static inline i64 signed_down(i128 n, i64 d) {
-    i128 q = n / d;
-    return (i64)(q - (q * d > n));
+static inline i64 signed_down(i128 x, i64 d) {
+    i128 q = x / d;
+    return (i64)(q - (q * d > x));
 }
 
-static inline i64 signed_up(i128 n, i64 d) {
-    i128 q = n / d;
-    return (i64)(q + (q * d < n));
+static inline i64 signed_up(i128 x, i64 d) {
+    i128 q = x / d;
+    return (i64)(q + (q * d < x));
 }
 
 static inline SignedEnds signed_of(Ends p) { return (SignedEnds){(i64)p.lo, (i64)p.hi}; }
@@ -60,41 +63,44 @@ static inline SignedEnds signed_plus(SignedEnds a, SignedEnds b) { return (Signe
 static inline SignedEnds signed_minus(SignedEnds a, SignedEnds b) { return (SignedEnds){a.lo - b.hi, a.hi - b.lo}; }
 
 // By a pair that has nothing below zero.
-static inline SignedEnds signed_times(SignedEnds a, Ends p) {
-    return (SignedEnds){signed_down((i128)a.lo * (a.lo < 0 ? p.hi : p.lo), S),
-                        signed_up((i128)a.hi * (a.hi < 0 ? p.lo : p.hi), S)};
+static inline SignedEnds signed_times(SignedEnds a, Ends p, u64 n) {
+    i64 s = (i64)(n * MILLION);
+    return (SignedEnds){signed_down((i128)a.lo * (a.lo < 0 ? p.hi : p.lo), s),
+                        signed_up((i128)a.hi * (a.hi < 0 ? p.lo : p.hi), s)};
 }
 
-static inline SignedEnds signed_over(SignedEnds a, Ends p) {
-    return (SignedEnds){signed_down((i128)a.lo * S, (i64)(a.lo < 0 ? p.lo : p.hi)),
-                        signed_up((i128)a.hi * S, (i64)(a.hi < 0 ? p.hi : p.lo))};
+static inline SignedEnds signed_over(SignedEnds a, Ends p, u64 n) {
+    i64 s = (i64)(n * MILLION);
+    return (SignedEnds){signed_down((i128)a.lo * s, (i64)(a.lo < 0 ? p.lo : p.hi)),
+                        signed_up((i128)a.hi * s, (i64)(a.hi < 0 ? p.hi : p.lo))};
 }
 
 // ---- widths and slenderness
 
-static Ends slenderness_squared(Ends w, Ends t, Ends fyb, Ends k) {
-    Ends ratio = over(w, t);
-    return over(over(times(times(ratio, ratio), fyb), exact(1895416, 10)), k);
+AT_SCALE Ends slenderness_squared(Ends w, Ends t, Ends fyb, Ends k, u64 n) {
+    Ends ratio = over(w, t, n);
+    return over(over(times(times(ratio, ratio, n), fyb, n), exact(1895416, 10, n), n), k, n);
 }
 
-// rho falls with u: its lower end comes from the upper end of u.
-static Ends share(Ends u, u64 limit, u64 less) {
-    Ends rho = {S, S};
-    if (u.hi > limit) rho.lo = smaller(S, quotient_down((u128)(u.hi - less) * S * S, u.hi * u.hi));
-    if (u.lo > limit) rho.hi = smaller(S, quotient_up((u128)(u.lo - less) * S * S, u.lo * u.lo));
+// rho falls with u: its lower end comes from the upper end of u. limit and less are in millionths.
+AT_SCALE Ends share(Ends u, u64 limit, u64 less, u64 n) {
+    u64 s = n * MILLION;
+    Ends rho = {s, s};
+    if (u.hi > n * limit) rho.lo = smaller(s, quotient_down((u128)(u.hi - n * less) * s * s, u.hi * u.hi));
+    if (u.lo > n * limit) rho.hi = smaller(s, quotient_up((u128)(u.lo - n * less) * s * s, u.lo * u.lo));
     return rho;
 }
 
-static Ends plane_share(Ends u_squared) { return share(root(u_squared), 673000, 220000); }
-static Ends lip_share(Ends u_squared) { return share(root(u_squared), 748000, 188000); }
+AT_SCALE Ends plane_share(Ends u_squared, u64 n) { return share(root(u_squared, n), 673000, 220000, n); }
+AT_SCALE Ends lip_share(Ends u_squared, u64 n) { return share(root(u_squared, n), 748000, 188000, n); }
 
-static Ends coefficient_at(u64 q) {
-    if (q <= 350000) return exact(1, 2);
-    Ends past = {q - 350000, q - 350000};
-    return plus(exact(1, 2), times(exact(83, 100), ends_cube_root(times(past, past), S)));
+AT_SCALE Ends coefficient_at(u64 q, u64 n) {
+    if (q <= n * 350000) return exact(1, 2, n);
+    Ends past = {q - n * 350000, q - n * 350000};
+    return plus(exact(1, 2, n), times(exact(83, 100, n), ends_cube_root(times(past, past, n), n * MILLION), n));
 }
 
-static Ends coefficient(Ends q) { return (Ends){coefficient_at(q.lo).lo, coefficient_at(q.hi).hi}; }
+AT_SCALE Ends coefficient(Ends q, u64 n) { return (Ends){coefficient_at(q.lo, n).lo, coefficient_at(q.hi, n).hi}; }
 
 // ---- stiffener of each flange
 
@@ -102,142 +108,152 @@ typedef struct { Ends bp, plane, lip; } Flange;
 typedef struct { Ends be2, c, a, g, chi; } Stiffener;
 typedef struct { Ends hp, cp, t, fyb; Flange flange[2]; } Section;
 
-static Ends half_kept(Ends rho, Ends w) { return times(times(exact(1, 2), rho), w); }
+AT_SCALE Ends half_kept(Ends rho, Ends w, u64 n) { return times(times(exact(1, 2, n), rho, n), w, n); }
 
-static u64 factor_down(u64 ud) {
-    if (ud <= 650000) return S;
-    if (ud < 1380000) return smaller(S, (1470ull * S - 723 * ud) / 1000);
-    return 66ull * S * S / (100 * ud);
+AT_SCALE u64 factor_down(u64 ud, u64 n) {
+    u64 s = n * MILLION;
+    if (ud <= n * 650000) return s;
+    if (ud < n * 1380000) return smaller(s, (1470 * s - 723 * ud) / 1000);
+    return 66 * s * s / (100 * ud);
 }
 
-static u64 factor_up(u64 ud) {
-    if (ud <= 650000) return S;
-    if (ud < 1380000) return smaller(S, (1470ull * S - 723 * ud + 999) / 1000);
-    return (66ull * S * S + 100 * ud - 1) / (100 * ud);
+AT_SCALE u64 factor_up(u64 ud, u64 n) {
+    u64 s = n * MILLION;
+    if (ud <= n * 650000) return s;
+    if (ud < n * 1380000) return smaller(s, (1470 * s - 723 * ud + 999) / 1000);
+    return (66 * s * s + 100 * ud - 1) / (100 * ud);
 }
 
-static Ends factor(Ends ud) {
-    Ends chi = {factor_down(ud.hi), factor_up(ud.lo)};
-    if (ud.lo < 1380000 && ud.hi >= 1380000) {
-        chi.lo = smaller(472260, chi.lo);
-        chi.hi = larger(factor_up(1380000), chi.hi);
+AT_SCALE Ends factor(Ends ud, u64 n) {
+    u64 jump = n * 1380000;
+    Ends chi = {factor_down(ud.hi, n), factor_up(ud.lo, n)};
+    if (ud.lo < jump && ud.hi >= jump) {
+        chi.lo = smaller(n * 472260, chi.lo);
+        chi.hi = larger(factor_up(jump, n), chi.hi);
     }
     return chi;
 }
 
 // be2, c_eff, a and g, from u^2 of flange and lip.
-static void widths(const Section *section, Stiffener *s, Ends bp, Ends plane, Ends lip) {
-    s->be2 = half_kept(plane_share(plane), bp);
-    s->c = times(lip_share(lip), section->cp);
+AT_SCALE void widths(const Section *section, Stiffener *s, Ends bp, Ends plane, Ends lip, u64 n) {
+    s->be2 = half_kept(plane_share(plane, n), bp, n);
+    s->c = times(lip_share(lip, n), section->cp, n);
     s->a = plus(s->be2, s->c);
-    s->g = minus(bp, over(times(s->be2, s->be2), times(whole(2), s->a)));
+    s->g = minus(bp, over(times(s->be2, s->be2, n), times(whole(2, n), s->a, n), n));
 }
 
-static Ends thickness_factor(const Section *section, const Stiffener *s, const Stiffener *other) {
-    Ends cube = times(times(s->c, s->c), s->c);
-    Ends flat = over(times(times(s->be2, section->t), section->t), whole(12));
-    Ends far = over(times(cube, s->be2), times(whole(4), s->a));
-    Ends j = plus(plus(flat, over(cube, whole(12))), far);
-    Ends load = over(over(times(section->fyb, s->a), section->t), whole(210));
-    Ends square = times(s->g, s->g);
-    Ends kf = over(other->a, s->a);
-    Ends cross = times(times(times(times(exact(1, 2), s->g), other->g), section->hp), kf);
-    Ends d = plus(plus(times(square, section->hp), times(square, s->g)), cross);
-    Ends product = times(times(over(d, j), load), load);
-    return factor(root(root(over(times(product, exact(91, 100)), whole(1000000)))));
+AT_SCALE Ends thickness_factor(const Section *section, const Stiffener *s, const Stiffener *other, u64 n) {
+    Ends cube = times(times(s->c, s->c, n), s->c, n);
+    Ends flat = over(times(times(s->be2, section->t, n), section->t, n), whole(12, n), n);
+    Ends far = over(times(cube, s->be2, n), times(whole(4, n), s->a, n), n);
+    Ends j = plus(plus(flat, over(cube, whole(12, n), n)), far);
+    Ends load = over(over(times(section->fyb, s->a, n), section->t, n), whole(210, n), n);
+    Ends square = times(s->g, s->g, n);
+    Ends kf = over(other->a, s->a, n);
+    Ends cross = times(times(times(times(exact(1, 2, n), s->g, n), other->g, n), section->hp, n), kf, n);
+    Ends d = plus(plus(times(square, section->hp, n), times(square, s->g, n)), cross);
+    Ends product = times(times(over(d, j, n), load, n), load, n);
+    Ends fourth = over(times(product, exact(91, 100, n), n), whole(1000000, n), n);
+    return factor(root(root(fourth, n), n), n);
 }
 
-static void factors(const Section *section, Stiffener s[2]) {
-    for (int i = 0; i < 2; i++) s[i].chi = thickness_factor(section, &s[i], &s[1 - i]);
+AT_SCALE void factors(const Section *section, Stiffener s[2], u64 n) {
+    for (int i = 0; i < 2; i++) s[i].chi = thickness_factor(section, &s[i], &s[1 - i], n);
 }
 
-static void refine(const Section *section, Stiffener s[2]) {
+AT_SCALE void refine(const Section *section, Stiffener s[2], u64 n) {
     for (int i = 0; i < 2; i++) {
         const Flange *f = &section->flange[i];
-        widths(section, &s[i], f->bp, times(f->plane, s[i].chi), times(f->lip, s[i].chi));
+        widths(section, &s[i], f->bp, times(f->plane, s[i].chi, n), times(f->lip, s[i].chi, n), n);
     }
-    factors(section, s);
+    factors(section, s, n);
 }
 
 // ---- area, resistance, shift
 
 typedef struct { Ends be1[2], be2[2], c[2], a[2], chi[2], he; } Kept;
 
-static Ends length_of(const Kept *k) {
+AT_SCALE Ends length_of(const Kept *k, u64 n) {
     Ends sum = plus(plus(plus(k->be1[0], k->be1[1]), k->he), k->he);
-    return plus(plus(sum, times(k->a[0], k->chi[0])), times(k->a[1], k->chi[1]));
+    return plus(plus(sum, times(k->a[0], k->chi[0], n)), times(k->a[1], k->chi[1], n));
 }
 
-static SignedEnds axis(const Kept *k, Ends hp, Ends length) {
-    Ends two = whole(2), he = k->he;
-    SignedEnds arm = signed_minus(signed_of(hp), signed_of(over(k->c[1], two)));
-    SignedEnds sum = signed_times(arm, times(k->c[1], k->chi[1]));
-    sum = signed_plus(sum, signed_of(times(hp, plus(times(k->be2[1], k->chi[1]), k->be1[1]))));
-    sum = signed_plus(sum, signed_of(times(he, minus(hp, over(he, two)))));
-    sum = signed_plus(sum, signed_of(over(times(he, he), two)));
-    sum = signed_plus(sum, signed_of(over(times(times(k->c[0], k->c[0]), k->chi[0]), two)));
-    return signed_over(sum, length);
+AT_SCALE SignedEnds axis(const Kept *k, Ends hp, Ends length, u64 n) {
+    Ends two = whole(2, n), he = k->he;
+    SignedEnds arm = signed_minus(signed_of(hp), signed_of(over(k->c[1], two, n)));
+    SignedEnds sum = signed_times(arm, times(k->c[1], k->chi[1], n), n);
+    sum = signed_plus(sum, signed_of(times(hp, plus(times(k->be2[1], k->chi[1], n), k->be1[1]), n)));
+    sum = signed_plus(sum, signed_of(times(he, minus(hp, over(he, two, n)), n)));
+    sum = signed_plus(sum, signed_of(over(times(he, he, n), two, n)));
+    sum = signed_plus(sum, signed_of(over(times(times(k->c[0], k->c[0], n), k->chi[0], n), two, n)));
+    return signed_over(sum, length, n);
 }
 
-static void flange_of(Section *section, int i, u64 b, Ends tnom) {
+AT_SCALE void flange_of(Section *section, int i, u64 b, Ends tnom, u64 n) {
     Flange *f = &section->flange[i];
-    f->bp = minus(exact(b, 100), tnom);
-    f->plane = slenderness_squared(f->bp, section->t, section->fyb, whole(4));
-    f->lip = slenderness_squared(section->cp, section->t, section->fyb, coefficient(over(section->cp, f->bp)));
+    f->bp = minus(exact(b, 100, n), tnom);
+    f->plane = slenderness_squared(f->bp, section->t, section->fyb, whole(4, n), n);
+    f->lip = slenderness_squared(section->cp, section->t, section->fyb, coefficient(over(section->cp, f->bp, n), n), n);
 }
 
-static Kept effective(const Section *section, u64 rounds) {
+AT_SCALE Kept effective(const Section *section, u64 rounds, u64 n) {
     Kept k;
     Stiffener s[2];
     for (int i = 0; i < 2; i++) {
-        widths(section, &s[i], section->flange[i].bp, section->flange[i].plane, section->flange[i].lip);
+        widths(section, &s[i], section->flange[i].bp, section->flange[i].plane, section->flange[i].lip, n);
         k.be1[i] = s[i].be2;
     }
-    factors(section, s);
-    for (u64 n = 0; n < rounds; n++) refine(section, s);
+    factors(section, s, n);
+    for (u64 i = 0; i < rounds; i++) refine(section, s, n);
     for (int i = 0; i < 2; i++) {
         k.be2[i] = s[i].be2;
         k.c[i] = s[i].c;
         k.a[i] = s[i].a;
         k.chi[i] = s[i].chi;
     }
-    k.he = half_kept(plane_share(slenderness_squared(section->hp, section->t, section->fyb, whole(4))), section->hp);
+    Ends web = slenderness_squared(section->hp, section->t, section->fyb, whole(4, n), n);
+    k.he = half_kept(plane_share(web, n), section->hp, n);
     return k;
 }
 
-static Kept gross(const Section *section) {
+AT_SCALE Kept gross(const Section *section, u64 n) {
     Kept k;
     for (int i = 0; i < 2; i++) {
-        k.be1[i] = k.be2[i] = over(section->flange[i].bp, whole(2));
+        k.be1[i] = k.be2[i] = over(section->flange[i].bp, whole(2, n), n);
         k.c[i] = section->cp;
         k.a[i] = plus(k.be2[i], k.c[i]);
-        k.chi[i] = whole(1);
+        k.chi[i] = whole(1, n);
     }
-    k.he = over(section->hp, whole(2));
+    k.he = over(section->hp, whole(2, n), n);
     return k;
 }
 
 // The figures, and whether they meet question 11.
-static int work(const Sheet *sheet, Figures *f) {
+AT_SCALE int work_at(const Sheet *sheet, Figures *f, u64 n) {
+    u64 s = n * MILLION;
     Section section;
-    Ends tnom = exact(sheet->tnom, 100);
-    section.hp = minus(exact(sheet->h, 100), tnom);
-    section.cp = minus(exact(sheet->c, 100), over(tnom, whole(2)));
-    section.t = exact(sheet->t, 100);
-    section.fyb = whole(sheet->fyb);
-    flange_of(&section, 0, sheet->b1, tnom);
-    flange_of(&section, 1, sheet->b2, tnom);
-    Kept kept = effective(&section, sheet->rounds), all = gross(&section);
-    Ends length = length_of(&kept);
-    Ends area = times(section.t, length);
-    SignedEnds shift = signed_minus(axis(&kept, section.hp, length), axis(&all, section.hp, length_of(&all)));
-    f->area = area.lo * 100 / S;
-    f->axial = area.lo * sheet->fyb * 1000 / (sheet->gm0 * S);
-    f->chi1 = kept.chi[0].lo * 1000 / S;
-    f->chi2 = kept.chi[1].lo * 1000 / S;
-    f->shiftlo = signed_down((i128)shift.lo * 100, S);
-    f->shifthi = signed_up((i128)shift.hi * 100, S);
-    return area.hi * 100 <= (f->area + sheet->allow) * S;
+    Ends tnom = exact(sheet->tnom, 100, n);
+    section.hp = minus(exact(sheet->h, 100, n), tnom);
+    section.cp = minus(exact(sheet->c, 100, n), over(tnom, whole(2, n), n));
+    section.t = exact(sheet->t, 100, n);
+    section.fyb = whole(sheet->fyb, n);
+    flange_of(&section, 0, sheet->b1, tnom, n);
+    flange_of(&section, 1, sheet->b2, tnom, n);
+    Kept kept = effective(&section, sheet->rounds, n), all = gross(&section, n);
+    Ends length = length_of(&kept, n);
+    Ends area = times(section.t, length, n);
+    SignedEnds shift = signed_minus(axis(&kept, section.hp, length, n), axis(&all, section.hp, length_of(&all, n), n));
+    f->area = area.lo * 100 / s;
+    f->axial = area.lo * sheet->fyb * 1000 / (sheet->gm0 * s);
+    f->chi1 = kept.chi[0].lo * 1000 / s;
+    f->chi2 = kept.chi[1].lo * 1000 / s;
+    f->shiftlo = signed_down((i128)shift.lo * 100, (i64)s);
+    f->shifthi = signed_up((i128)shift.hi * 100, (i64)s);
+    return area.hi * 100 <= (f->area + sheet->allow) * s;
+}
+
+static int work(const Sheet *sheet, Figures *f) {
+    return sheet->fine == 1 ? work_at(sheet, f, 1) : work_at(sheet, f, 10);
 }
 
 // ---- questions 2 to 11
@@ -245,7 +261,7 @@ static int work(const Sheet *sheet, Figures *f) {
 static Answer judged(const Sheet *sheet, Figures *f) {
     const i64 values[SHEET_LINES] = {SHEET(OF_SHEET)};
     for (int i = 0; i < SHEET_LINES; i++)
-        if ((u64)values[i] < RANGES[i][0] || (u64)values[i] > RANGES[i][1]) return refused(2, i + 1);
+        if (!within(&RANGES[i], (u64)values[i])) return refused(2, i + 1);
     const u64 b[2] = {sheet->b1, sheet->b2};
     if (sheet->t > sheet->tnom) return refused(3, 8);
     for (int i = 0; i < 2; i++)
@@ -345,7 +361,7 @@ static u64 read_lines(const uint8_t *text, size_t length, int count, i64 values[
 }
 
 static Sheet sheet_of(const i64 values[]) {
-#define VALUE(key, place, least, most) (u64)values[place],
+#define VALUE(key, place, ...) (u64)values[place],
     return (Sheet){SHEET(VALUE)};
 }
 
@@ -380,7 +396,7 @@ Answer plain_check(const uint8_t *certificate, size_t length) {
 }
 
 Answer plain_from_numbers(SHEET(PARAMETER) uint8_t *buffer, size_t room) {
-#define NAMED(key, place, least, most) key,
+#define NAMED(key, ...) key,
     Sheet sheet = {SHEET(NAMED)};
     return certify(&sheet, buffer, room);
 }
@@ -450,12 +466,12 @@ Answer plain_report(const uint8_t *text, size_t length, uint8_t *buffer, size_t 
 
 // ---- the table of lip coefficients (request W-203)
 
-Ends plain_k(u64 ratio) { return coefficient_at(ratio); }
+Ends plain_k(u64 ratio) { return coefficient_at(ratio, 1); }
 
 Answer plain_table(uint8_t *buffer, size_t room) {
     char text[HM_LIP_TABLE_LENGTH], *at = text;
     for (u64 ratio = RATIO_LEAST; ratio <= RATIO_MOST; ratio += RATIO_STEP) {
-        Ends k = coefficient_at(ratio);
+        Ends k = coefficient_at(ratio, 1);
         at = put_ended(at, k.lo, ' ');
         at = put_ended(at, k.hi, '\n');
     }

@@ -1,16 +1,17 @@
 #!/usr/bin/env bash
 # Says which functions of the archive a certificate with 3 rounds spends its instructions in (valgrind),
-# and its time (perf). Small functions are counted with those that the compiler put them into.
+# and its time (perf): profile.sh [FINE]. Small functions are counted with those that the compiler put them into.
 set -euo pipefail
 cd "$(dirname "$0")/../.."
 made=target/bench
 sheets=400
 passes=20
 version=honemagenta_0
-tests/bench/certificates.sh $version 1 | tail -1
+fine=${1:-1}
+tests/bench/certificates.sh $version 1 "$fine" | tail -1
 
 valgrind -q --tool=callgrind --callgrind-out-file=$made/callgrind.out --toggle-collect=honemagenta_from_numbers_0 \
-    $made/certificates $version $passes >/dev/null
+    $made/certificates $version $passes "$fine" >/dev/null
 echo "instructions for one certificate, and their share:"
 callgrind_annotate --threshold=100 $made/callgrind.out | awk -v calls=$((sheets * passes)) '
     /\[/ {
@@ -27,7 +28,7 @@ callgrind_annotate --threshold=100 $made/callgrind.out | awk -v calls=$((sheets 
         if (share + 0 >= 0.5) printf "%8.0f %6.1f%%  %s\n", count / calls, share, name
     }'
 
-if command -v perf >/dev/null && perf record -q -e cpu-clock -F 5000 -o $made/perf.data $made/certificates $version 4000 >/dev/null 2>&1; then
+if command -v perf >/dev/null && perf record -q -e cpu-clock -F 5000 -o $made/perf.data $made/certificates $version 4000 "$fine" >/dev/null 2>&1; then
     echo "time, its share:"
     perf report -i $made/perf.data --stdio --percent-limit 0.5 2>/dev/null | awk '/%/ { sub(/^ */, ""); $2 = $3 = $4 = ""; print "  " $0 }'
 fi

@@ -12,7 +12,7 @@ static inline Sheet with(Sheet sheet, int place, u64 value) {
 }
 
 static inline Answer from_numbers(const Version *v, Sheet sheet, uint8_t *buffer, size_t room) {
-#define NUMBER(key, place, least, most) sheet.n[place],
+#define NUMBER(key, place, ...) sheet.n[place],
     return v->from_numbers(SHEET(NUMBER) buffer, room);
 }
 
@@ -21,10 +21,16 @@ static inline u64 refusal_of(Sheet sheet) {
     return from_numbers(&versions[NEWTON * PLACES], sheet, buffer, ROOM).refusal;
 }
 
+// A value of line i + 1.
+static inline u64 in_range(int i) {
+    u64 first = RANGES[i].first, second = RANGES[i].second;
+    return RANGES[i].kind == UPTO ? between(first, second) : draw() % 2 ? first : second;
+}
+
 // Each value anywhere in its range.
 static inline Sheet any_sheet(void) {
     Sheet sheet;
-    for (int i = 0; i < SHEET_LINES; i++) sheet.n[i] = between(RANGES[i][0], RANGES[i][1]);
+    for (int i = 0; i < SHEET_LINES; i++) sheet.n[i] = in_range(i);
     return sheet;
 }
 
@@ -38,9 +44,13 @@ static inline Sheet sound_sheet(int equal_flanges) {
     }
 }
 
-static inline int accepted(Sheet sheet, u64 rounds) { return refusal_of(with(sheet, ROUNDS, rounds)) == 0; }
+// At both scales.
+static inline int accepted(Sheet sheet, u64 rounds) {
+    Sheet coarse = with(with(sheet, ROUNDS, rounds), FINE, RANGES[FINE].first);
+    return !refusal_of(coarse) && !refusal_of(with(coarse, FINE, RANGES[FINE].second));
+}
 
-// One that is accepted with an allowance of 10 mm², whether its rounds are 0, 3 or 8.
+// One that is accepted with an allowance of 10 mm², whether its rounds are 0, 3 or 8, at both scales.
 static inline Sheet accepted_sheet(int equal_flanges) {
     for (;;) {
         Sheet sheet = with(sound_sheet(equal_flanges), ALLOW, 1000);
@@ -70,13 +80,18 @@ static inline Sheet thin_sheet(void) {
 // With another value of one line.
 static inline Sheet one_moved(Sheet sheet) {
     int i = (int)(draw() % SHEET_LINES);
-    return with(sheet, i, between(RANGES[i][0], RANGES[i][1]));
+    return with(sheet, i, in_range(i));
 }
 
-// With a value of line i + 1 that is out of its range.
+// With a value of line i + 1 that is out of its range: below it, above it, or between two that it has.
 static inline Sheet out_of_range(Sheet sheet, int i) {
-    u64 above[] = {RANGES[i][1] + 1, RANGES[i][1] + between(1, 100000), UINT64_MAX - between(0, 9)};
-    return with(sheet, i, RANGES[i][0] && draw() % 2 ? between(0, RANGES[i][0] - 1) : above[draw() % 3]);
+    u64 first = RANGES[i].first, second = RANGES[i].second;
+    for (;;) {
+        u64 above[] = {second + 1, second + between(1, 100000), UINT64_MAX - between(0, 9)};
+        u64 values[] = {between(0, first), between(first, second), above[draw() % 3]};
+        u64 value = values[draw() % 3];
+        if (!within(&RANGES[i], value)) return with(sheet, i, value);
+    }
 }
 
 // ---- texts

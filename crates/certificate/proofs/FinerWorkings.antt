@@ -20,7 +20,7 @@ use Rattle.certificate.proofs.Theorems.{so-is-allowed}
 use Rattle.certificate.proofs.Shown.{sheet-back, figures-back, sheet-count, certificate-text}
 use Rattle.certificate.proofs.Written.{numbers-written, claims-are, sheet-written}
 
--- a certificate is its sheet's own lines, then the six of the working at our scale
+-- a certificate is its sheet's own lines, then the six of the working at its own scale
 own-lines-then : (q : Sheet) → certificateOf q ≡ own-lines q ++ linesText figureFields (figureValues (own-figures q))
 unfolding certificateFields certificateOf certificateValues sheetFields
 own-lines-then q = lines-join sheetFields figureFields (sheetValues q) (figureValues (own-figures q)) (sheet-count q)

@@ -1,6 +1,7 @@
 -- A sheet, its figures, and the lines that show them: each is had back from the other.
 use Prim.Native.Nat.{ℕ, zero, suc, _+_, _≤_, _<_}
 use mathlib.Core.List.{List, [], _∷_, _++_, map}
+use mathlib.Core.Logic.{⊎-elim}
 use mathlib.Core.Path.{_≡_, refl, sym, ap, _∙_, subst}
 use native.Mathlib.Omega.{arith}
 use lib.IntN.{ℤ, pos, natAbs}
@@ -111,7 +112,8 @@ sheet-spelt q h =
     (spelt-more _ _ _ _ (number-spelt _ (q .gm0) refl (omega (arith, h .gm0 .1)))
     (spelt-more _ _ _ _ (number-spelt _ (q .rounds) refl (omega (arith, h .rounds .1)))
     (spelt-more _ _ _ _ (number-spelt _ (q .allow) refl (omega (arith, h .allow .1)))
-    spelt-none)))))))))))
+    (spelt-more _ _ _ _ (number-spelt _ (q .fine) refl (⊎-elim (λ e. omega (arith, e)) (λ e. omega (arith, e)) (h .fine)))
+    spelt-none))))))))))))
 
 -- and figures of at most ten digits in theirs
 pub figures-spelt : (p : Printed) → FiguresBelow 10000000000 p → SpeltIn figureFields (figureValues p)

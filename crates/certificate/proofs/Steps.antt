@@ -22,6 +22,8 @@ use Rattle.certificate.specs.declared.verdicts.Span.{Span}
 use Rattle.questions.specs.Claims.{Claim, pairwise}
 use Rattle.questions.specs.Asking.{askedFrom, Finding, refusal, met, firstOf, firstIn}
 use Rattle.certificate.specs.Questions.{question2, question11, onNumbers, questions, foundOf, from, firstRefusal, judged, verdict, verdictOf, spanned}
+use Rattle.questions.specs.Reasons.{linedFrom}
+use Rattle.certificate.proofs.Ties.{so-in-range}
 use Rattle.questions.proofs.Laws.{All, all-when-met, met-when-all, refused-when-no, in-turn, pairwise-map, then-nothing}
 
 -- what is found, from the form that the code returns
@@ -52,8 +54,8 @@ module _ (q : Sheet) where
       ∙ pairwise-map (λ range w. range w) spanned spans vs)
 
   asked2 : All (question2 q) → Question2 q
-  unfolding question2 askedFrom in-ranges pairwise valuesOf
-  asked2 h = omega arith
+  unfolding question2 askedFrom linedFrom in-ranges pairwise valuesOf
+  asked2 h = so-in-range q .0 h
 
   -- the second is met
   pub in-range : firstOf (question2 q) ≡ met → Question2 q

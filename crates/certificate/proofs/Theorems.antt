@@ -1,11 +1,11 @@
--- What is proved of the questions on twelve numbers, in one place.
+-- What is proved of the questions on a sheet's numbers, in one place.
 use Prim.Native.Nat.{ℕ}
 use mathlib.Core.Path.{_≡_, refl}
 use mathlib.Core.Logic.{_↔_, inl, ⊎-elim}
 use mathlib.Core.List.{List, [], _∷_, _++_}
 use native.Mathlib.Omega.{arith}
 use Rattle.section.specs.declared.Sheet.{Sheet}
-use Rattle.section.specs.Sheets.{valuesOf, fineness, in-ranges}
+use Rattle.section.specs.Sheets.{fineness}
 use Rattle.section.specs.Sound.{Sound}
 use Rattle.section.specs.Figures.{Printed, own-figures, Question11}
 use Rattle.certificate.specs.declared.Refusal.{Refusal}
@@ -14,18 +14,17 @@ use Rattle.certificate.specs.Questions.{question11, onNumbers, questions
 use Rattle.questions.specs.declared.Answer.{Answer}
 use Rattle.questions.specs.Answers.{answer}
 use Rattle.certificate.specs.Refusals.{refusalAnswer}
-use Rattle.questions.specs.Claims.{pairwise}
-use Rattle.questions.specs.Reasons.{Lined, linedFrom, AllSo, Reason, Found-as}
+use Rattle.questions.specs.Reasons.{Lined, AllSo, Reason, Found-as}
 use Rattle.certificate.specs.Reasons.{lines-on-numbers, lines11, lines-of, Judged-as}
 use Rattle.questions.proofs.Laws.{met-when-so, found-with-reason}
-use Rattle.certificate.proofs.Ties.{on-numbers-told, questions-told}
+use Rattle.certificate.proofs.Ties.{so-in-range, on-numbers-told, questions-told}
 
 -- the claims of questions 2 to 10 are what section's theorems ask for
 pub so-is-sound : (q : Sheet) → AllSo (lines-on-numbers q) ↔ Sound q
-unfolding lines-on-numbers linedFrom in-ranges pairwise valuesOf
+unfolding lines-on-numbers
 so-is-sound q = (
   λ h. record {
-    q2 = omega (arith, h .0);
+    q2 = so-in-range q .0 (h .0);
     q3 = omega (arith, h .1 .0);
     q4 = omega (arith, h .1 .1 .0);
     q5 = omega (arith, h .1 .1 .1 .0);
@@ -36,7 +35,7 @@ so-is-sound q = (
     q10 = record { form = h .1 .1 .1 .1 .1 .1 .1 .1 .0 .0 };
   },
   λ s. (
-    omega (arith, s .q2),
+    so-in-range q .1 (s .q2),
     (
       omega (arith, s .q3),
       (omega (arith, s .q4), (omega (arith, s .q5), (omega (arith, s .q6), (omega (arith, s .q7), (omega (arith, s .q8), (omega (arith, s .q9), ((s .q10 .form, tt), tt))))))),

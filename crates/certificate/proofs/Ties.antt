@@ -8,7 +8,8 @@ use lib.IntN.{ℤ}
 use lib.ListN.{length, drop, length-drop}
 use Rattle.section.specs.declared.Sheet.{Sheet}
 use Rattle.questions.specs.Claims.{_is_, pairwise}
-use Rattle.section.specs.Sheets.{sheetLines, in-ranges}
+use Rattle.section.specs.Sheets.{sheetLines, in-ranges, valuesOf}
+use Rattle.section.specs.Sound.{Question2}
 use Rattle.section.specs.Figures.{own-figures}
 use Rattle.certificate.specs.Keys.{certificateLines}
 use Rattle.questions.specs.Asking.{Asked}
@@ -24,6 +25,31 @@ use Rattle.certificate.specs.Outcome.{question12, question13, writing, c
 use Rattle.certificate.specs.Promises.{lines12, lines13, lines-of-writing, lines-of-checking}
 use Rattle.questions.proofs.Laws.{Told, ToldFrom, told-lines}
 use Rattle.certificate.proofs.Shown.{figure-count}
+
+-- the claims of the second question are what section's theorems ask of the ranges
+pub so-in-range : (q : Sheet) → So (linedFrom 1 (in-ranges q)) ↔ Question2 q
+unfolding linedFrom in-ranges pairwise valuesOf
+so-in-range q = (
+  λ so.
+      let behind-r = so .1 .1 .1 .1 .1 .1 in
+      record {
+        form = so .0;
+        h = so .1 .0;
+        b1 = so .1 .1 .0;
+        b2 = so .1 .1 .1 .0;
+        c = so .1 .1 .1 .1 .0;
+        r = so .1 .1 .1 .1 .1 .0;
+        tnom = behind-r .0;
+        t = behind-r .1 .0;
+        fyb = behind-r .1 .1 .0;
+        gm0 = behind-r .1 .1 .1 .0;
+        rounds = behind-r .1 .1 .1 .1 .0;
+        allow = behind-r .1 .1 .1 .1 .1 .0;
+        fine = behind-r .1 .1 .1 .1 .1 .1 .0;
+      },
+  λ p.
+      (p .form, (p .h, (p .b1, (p .b2, (p .c, (p .r, (p .tnom, (p .t, (p .fyb, (p .gm0, (p .rounds, (p .allow, (p .fine, tt))))))))))))),
+)
 
 module _ (q : Sheet) where
   -- what each refusal tells

@@ -28,7 +28,7 @@ use Rattle.certificate.proofs.Shown.{sheet-alone, values-back}
 use Rattle.certificate.proofs.OutcomeSteps.{bad-sheet, right-sheet}
 use Rattle.certificate.proofs.Answered.{misspelt-refuses}
 
--- Twelve numbers.
+-- A sheet's numbers.
 module _ (q : Sheet) (room : ℕ) where
   -- they are written exactly where they meet questions 2 to 12, and then as their certificate
   pub numbers-written : (t : List ℕ) → (outcomeOf q room ≡ written t) ↔ (AllSo (lines-of-writing room q) × (t ≡ certificateOf q))

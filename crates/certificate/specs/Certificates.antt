@@ -20,7 +20,7 @@ sheetValues q = map pos (valuesOf q)
 unfoldable pub figureValues : Printed → List ℤ
 figureValues p = pos (p .area) ∷ pos (p .axial) ∷ pos (p .chi1) ∷ pos (p .chi2) ∷ p .shiftlo ∷ p .shifthi ∷ []
 
--- the sheet's lines, then the six of the working at our scale
+-- the sheet's lines, then the six of the working at its own scale
 unfoldable pub certificateValues : Sheet → List ℤ
 certificateValues q = sheetValues q ++ figureValues (own-figures q)
 

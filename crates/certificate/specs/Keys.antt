@@ -33,6 +33,7 @@ sheetFields =
     ∷ ("gm0=" holds Number)
     ∷ ("rounds=" holds Number)
     ∷ ("allow=" holds Number)
+    ∷ ("fine=" holds Number)
     ∷ []
 
 -- those behind them in a certificate

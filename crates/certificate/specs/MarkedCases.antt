@@ -1,6 +1,6 @@
--- The thirteen marked cases of document 01, in its order, the tenth as document 02 amends it (W-201): what is worked by our definitions, and what
--- the paper expects of it.
--- Pairs are in millionths, the units of our scale. One theorem shows the list: `marked-cases` of proofs/Marked.
+-- The thirteen marked cases of document 01, in its order, as document 02 amends them: the tenth by W-201, and each sheet has fine=1 (W-204). What is
+-- worked by our definitions, and what the paper expects of it.
+-- Pairs are in millionths, the units of the scale 1,000,000. One theorem shows the list: `marked-cases` of proofs/Marked.
 use Prim.Native.Nat.{ℕ}
 use mathlib.Core.List.{List, [], _∷_, _++_}
 use mathlib.Core.Path.{_≡_}
@@ -42,23 +42,23 @@ Each (c ∷ cs) = Says c × Each cs
 
 -- Sheet A
 unfoldable pub sheetA : List ℕ
-sheetA = bytes "form=C\nh=7200\nb1=4200\nb2=4200\nc=1600\nr=300\ntnom=200\nt=200\nfyb=235\ngm0=1000\nrounds=0\nallow=0\n"
+sheetA = bytes "form=C\nh=7200\nb1=4200\nb2=4200\nc=1600\nr=300\ntnom=200\nt=200\nfyb=235\ngm0=1000\nrounds=0\nallow=0\nfine=1\n"
 
 -- Sheet B (profile of 002)
 unfoldable pub sheetB : List ℕ
-sheetB = bytes "form=C\nh=20000\nb1=7400\nb2=6600\nc=2080\nr=300\ntnom=200\nt=196\nfyb=350\ngm0=1000\nrounds=1\nallow=10\n"
+sheetB = bytes "form=C\nh=20000\nb1=7400\nb2=6600\nc=2080\nr=300\ntnom=200\nt=196\nfyb=350\ngm0=1000\nrounds=1\nallow=10\nfine=1\n"
 
 -- B with allow=0
 unfoldable pub sheet11 : List ℕ
-sheet11 = bytes "form=C\nh=20000\nb1=7400\nb2=6600\nc=2080\nr=300\ntnom=200\nt=196\nfyb=350\ngm0=1000\nrounds=1\nallow=0\n"
+sheet11 = bytes "form=C\nh=20000\nb1=7400\nb2=6600\nc=2080\nr=300\ntnom=200\nt=196\nfyb=350\ngm0=1000\nrounds=1\nallow=0\nfine=1\n"
 
 -- A with c=2600
 unfoldable pub sheet12 : List ℕ
-sheet12 = bytes "form=C\nh=7200\nb1=4200\nb2=4200\nc=2600\nr=300\ntnom=200\nt=200\nfyb=235\ngm0=1000\nrounds=0\nallow=0\n"
+sheet12 = bytes "form=C\nh=7200\nb1=4200\nb2=4200\nc=2600\nr=300\ntnom=200\nt=200\nfyb=235\ngm0=1000\nrounds=0\nallow=0\nfine=1\n"
 
 -- A with b1=b2=2000, c=1200, r=0, tnom=100, t=95
 unfoldable pub sheet13 : List ℕ
-sheet13 = bytes "form=C\nh=7200\nb1=2000\nb2=2000\nc=1200\nr=0\ntnom=100\nt=95\nfyb=235\ngm0=1000\nrounds=0\nallow=0\n"
+sheet13 = bytes "form=C\nh=7200\nb1=2000\nb2=2000\nc=1200\nr=0\ntnom=100\nt=95\nfyb=235\ngm0=1000\nrounds=0\nallow=0\nfine=1\n"
 
 -- room for any certificate
 abbrev pub room : ℕ

@@ -1,4 +1,4 @@
--- What writing and checking do, for any bytes, any twelve numbers and any room. (docs/WORKING.md, 15.)
+-- What writing and checking do, for any bytes, any numbers of a sheet and any room. (docs/WORKING.md, 15.)
 use Prim.Native.Nat.{ℕ, _+_}
 use mathlib.Core.List.{List, [], _∷_, _++_}
 use lib.IntN.{ℤ}
@@ -30,7 +30,7 @@ writing room q = questions q ++ (question12 room q ∷ [])
 unfoldable pub checking : List ℤ → Sheet → List (List (Asked Refusal))
 checking vs q = questions q ++ ([] ∷ question13 vs q ∷ [])
 
--- twelve numbers, and a buffer's room: the call with numbers begins at the second question
+-- a sheet's numbers, and a buffer's room: the call with numbers begins at the second question
 unfoldable pub outcomeOf : Sheet → ℕ → Outcome Refusal
 outcomeOf q room = writtenIfMet (firstIn (writing room q)) (certificateOf q)
 

@@ -76,7 +76,8 @@ pub record Issued (c : List ℕ) : Type 0 where
   pub writes : outcome sheet room ≡ written c
 
 -- The third demand, of a sheet q whose own lines are the bytes s, and of c: c is these lines, and behind them the six of the working at our
--- scale; its lines are read back from its bytes; and the section q, worked at m times our scale, holds what they show, whatever m is.
+-- scale, which is the sheet's own (W-204), fineness × 1,000,000; its lines are read back from its bytes; and the section q, worked at m times our
+-- scale, holds what they show, whatever m is.
 pub record HoldsFinerWorkings (q : Sheet) (s c : List ℕ) : Type 0 where
   pub own-lines-first : c ≡ s ++ linesText figureFields (figureValues (own-figures q))
   pub shown : List ℤ

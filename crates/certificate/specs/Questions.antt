@@ -1,11 +1,11 @@
--- The questions on twelve numbers, in order, and what they give. (docs/WORKING.md, 15.)
+-- The questions on a sheet's numbers, in order, and what they give. (docs/WORKING.md, 15.)
 use Prim.Native.Nat.{ℕ, _-_}
 use mathlib.Core.List.{List, [], _∷_, _++_}
 use lib.ListN.{drop}
 use Rattle.section.specs.declared.Sheet.{Sheet}
 use Rattle.questions.specs.Claims.{Claim, _and_, _or_}
 use Rattle.questions.specs.Asking.{Asked, _else_, askedFrom, Finding, refusal, met, firstIn}
-use Rattle.section.specs.Sheets.{_upto_, in-ranges, fineness, lip, core-within, width, lip-length, depth, radius-core, radius-flange, mid-line-lip, form-z, lips-apart}
+use Rattle.section.specs.Sheets.{_upto_, one-of, in-ranges, fineness, lip, core-within, width, lip-length, depth, radius-core, radius-flange, mid-line-lip, form-z, lips-apart}
 use Rattle.section.specs.Figures.{Printed, own-figures, allowance}
 use Rattle.section.specs.Forms.{figuresOf}
 use Rattle.certificate.specs.declared.Refusal.{Refusal}
@@ -13,6 +13,7 @@ use Rattle.certificate.specs.declared.Refusal.the-variants.{Range, Thick
 use Rattle.certificate.specs.declared.Found.{Found}
 use Rattle.certificate.specs.declared.Found.the-variants.{Unmet, Met}
 use Rattle.certificate.specs.declared.verdicts.Span.{Span}
+use Rattle.certificate.specs.declared.verdicts.Span.the-variants.{Upto, OneOf}
 use Rattle.certificate.specs.declared.Verdict.{Verdict}
 use Rattle.certificate.specs.declared.Verdict.the-variants.{Refused, Accepted}
 
@@ -54,7 +55,7 @@ question9 q =
 unfoldable pub question10 : Sheet → List (Asked Refusal)
 question10 q = (form-z (q .form) or lips-apart (q .c) (q .h) else Form) ∷ []
 
--- Is the area's upper end at most area + allow, as worked at our scale?
+-- Is the area's upper end at most area + allow, as worked at the sheet's own scale?
 unfoldable pub question11 : Sheet → List (Asked Refusal)
 question11 q = (allowance (fineness q) q else Allowance) ∷ []
 
@@ -97,4 +98,5 @@ verdictOf (accepted p) = Accepted (figuresOf p)
 
 -- what a row of the code's table of ranges claims of a value
 abbrev pub spanned : Span → ℕ → Claim
-spanned s v = (s .least upto s .most) v
+spanned (Upto least most) v = (least upto most) v
+spanned (OneOf a b) v = one-of a b v

@@ -66,6 +66,11 @@ pub const KEYS: [Key; CERTIFICATE_LINES] = [
         kind: Kind::Number,
     },
     Key {
+        text: *b"fine=\0\0\0",
+        length: 5,
+        kind: Kind::Number,
+    },
+    Key {
         text: *b"area=\0\0\0",
         length: 5,
         kind: Kind::Number,

@@ -20,9 +20,9 @@ pub const CERTIFICATE_LINES: usize = SHEET_LINES + FIGURE_LINES;
 // How long the text of a sheet and of a certificate can be (`longest-sheet` and
 // `longest-certificate` in proofs/Lengths). Bytes more than one behind that do not change what
 // reading gives (`cut-sheet`, `cut-certificate`).
-pub const LONGEST_SHEET: usize = 168;
+pub const LONGEST_SHEET: usize = 184;
 
-pub const LONGEST_CERTIFICATE: usize = 273;
+pub const LONGEST_CERTIFICATE: usize = 289;
 
 const ZERO: Integer = Integer {
     below: false,

@@ -1,4 +1,4 @@
-// The questions on twelve numbers, in the paper's order: the first "no" decides.
+// The questions on a sheet's numbers, in the paper's order: the first "no" decides.
 // (docs/WORKING.md, 15.)
 use crate::Found;
 use crate::Refusal;
@@ -16,56 +16,27 @@ ghost use Rattle.questions.specs.Asking.{firstOf, First};
 ghost use Rattle.certificate.specs.Questions.{question2, question11, foundOf, from, firstRefusal, judged, verdict, verdictOf, spanned};
 ghost use Rattle.section.specs.Sheets.{lip};
 
-// The least and the most that a value may be.
-struct Span {
-    least: u64,
-    most: u64,
+// What a value may be: from the first number to the second, both included, or one of the two.
+enum Span {
+    Upto(u64, u64),
+    OneOf(u64, u64),
 }
 
 // The ranges, in the order of the lines.
 const RANGES: [Span; SHEET_LINES] = [
-    Span { least: 0, most: 1 },
-    Span {
-        least: 4000,
-        most: 50_000,
-    },
-    Span {
-        least: 2000,
-        most: 20_000,
-    },
-    Span {
-        least: 2000,
-        most: 20_000,
-    },
-    Span {
-        least: 500,
-        most: 12_000,
-    },
-    Span {
-        least: 0,
-        most: 3000,
-    },
-    Span {
-        least: 50,
-        most: 600,
-    },
-    Span {
-        least: 45,
-        most: 600,
-    },
-    Span {
-        least: 200,
-        most: 700,
-    },
-    Span {
-        least: 1000,
-        most: 1500,
-    },
-    Span { least: 0, most: 8 },
-    Span {
-        least: 0,
-        most: 1000,
-    },
+    Span::Upto(0, 1),
+    Span::Upto(4000, 50_000),
+    Span::Upto(2000, 20_000),
+    Span::Upto(2000, 20_000),
+    Span::Upto(500, 12_000),
+    Span::Upto(0, 3000),
+    Span::Upto(50, 600),
+    Span::Upto(45, 600),
+    Span::Upto(200, 700),
+    Span::Upto(1000, 1500),
+    Span::Upto(0, 8),
+    Span::Upto(0, 1000),
+    Span::OneOf(1, 10),
 ];
 
 // The lines of the flanges.
@@ -76,7 +47,10 @@ const FLANGE_2: u64 = 4;
 fn within(span: Span, v: u64) -> bool
     ensures { λ r. ⌜ r ≡ test (spanned span v) ⌝ }
 {
-    span.least <= v && v <= span.most
+    match span {
+        Span::Upto(least, most) => least <= v && v <= most,
+        Span::OneOf(a, b) => v == a || v == b,
+    }
 }
 
 // Question 2: the first line whose value is out of its range.
@@ -205,7 +179,7 @@ fn tenth(q: Sheet) -> Found
     Found::Unmet(Refusal::Form)
 }
 
-// The first of questions 2 to 10 that twelve numbers do not meet.
+// The first of questions 2 to 10 that a sheet's numbers do not meet.
 pub fn first_refusal(q: Sheet) -> Found
     ensures { λ f. ⌜ f ≡ foundOf (firstRefusal q) ⌝ }
 {
@@ -231,7 +205,7 @@ fn allowance(q: Sheet) -> Verdict
     }
 }
 
-// The first of questions 2 to 11 that twelve numbers do not meet, or their figures.
+// The first of questions 2 to 11 that a sheet's numbers do not meet, or their figures.
 pub fn verdict_of(q: Sheet) -> Verdict
     ensures { λ v. ⌜ v ≡ verdictOf (verdict q) ⌝ }
 {

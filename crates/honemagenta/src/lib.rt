@@ -45,16 +45,31 @@ pub extern "C" fn hm_certificate_from_numbers(
     gm0: u64,
     rounds: u64,
     allow: u64,
+    fine: u64,
     buffer: &mut [u8],
 ) -> Answer
     ensures { λ a. ⌜ a ≡ answerIn refusalAnswer
-        (outcomeOf (sheetOf (form ∷ h ∷ b1 ∷ b2 ∷ c ∷ r ∷ tnom ∷ t ∷ fyb ∷ gm0 ∷ rounds ∷ allow ∷ [])))
+        (outcomeOf (sheetOf (form ∷ h ∷ b1 ∷ b2 ∷ c ∷ r ∷ tnom ∷ t ∷ fyb ∷ gm0 ∷ rounds ∷ allow ∷ fine ∷ [])))
         (now (buffer .entry)) ⌝ }
     ensures { λ _. ⌜ now (buffer .exit) ≡ bufferIn
-        (outcomeOf (sheetOf (form ∷ h ∷ b1 ∷ b2 ∷ c ∷ r ∷ tnom ∷ t ∷ fyb ∷ gm0 ∷ rounds ∷ allow ∷ [])))
+        (outcomeOf (sheetOf (form ∷ h ∷ b1 ∷ b2 ∷ c ∷ r ∷ tnom ∷ t ∷ fyb ∷ gm0 ∷ rounds ∷ allow ∷ fine ∷ [])))
         (now (buffer .entry)) ⌝ }
 {
-    let numbers = [form, h, b1, b2, c, r, tnom, t, fyb, gm0, rounds, allow];
+    let numbers = [
+        form,
+        h,
+        b1,
+        b2,
+        c,
+        r,
+        tnom,
+        t,
+        fyb,
+        gm0,
+        rounds,
+        allow,
+        fine,
+    ];
     certificates::from_numbers(numbers, buffer)
 }
 

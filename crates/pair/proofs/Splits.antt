@@ -10,7 +10,7 @@ use lib.Arith.{digits-div}
 use Rattle.pair.specs.Rounding.{ceilDiv}
 use Rattle.pair.specs.Remainders.{Split}
 use Rattle.pair.proofs.Tests.{by-test}
-use Rattle.pair.proofs.Quotients.{ceil-le, le-ceil}
+use Rattle.pair.proofs.Quotients.{ceil-le, le-ceil, sub-mul}
 
 pub divides : (n : ℕ) {d : ℕ} → 0 < d → Split n d (n / d) (n % d)
 divides n {d} h = record { sum = div-add-mod' n d; small = mod-lt n h }
@@ -121,3 +121,12 @@ left-fits x y h = lt-of-le-of-lt (le-add-right x y) h
 -- nothing stands in the upper word
 pub low-word : {n h : ℕ} → h ≡ n / 2 ^ 64 → h ≡ 0 → n < 2 ^ 64
 low-word {n} {h} e z = omega (arith, div-lt-iff-lt-mul {k = 2 ^ 64} {x = n} {y = 1} (omega arith) .0 (omega arith))
+
+-- whole multiples of the divisor are taken out
+pub ceil-more : (x y : ℕ) {d : ℕ} → 0 < d → x + ceilDiv y d ≡ ceilDiv (x * d + y) d
+ceil-more x y {d} pos =
+    let n = x * d + y in
+    let up = le-ceil {n = n} pos in
+    let below : x ≤ ceilDiv n d = le-of-mul-le-mul-right {k = d} (omega (arith, up)) pos in
+    let rest = ceil-le {n = y} {x = ceilDiv n d - x} pos (omega (arith, sub-mul (ceilDiv n d) x d, up)) in
+    le-antisymm (omega (arith, below, rest)) (ceil-le pos (omega (arith, le-ceil {n = y} pos)))

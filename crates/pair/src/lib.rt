@@ -59,13 +59,20 @@ impl Pair {
         }
     }
 
+    // Where both products fit a word they are divided there.
     pub fn times(self, q: Pair, s: u64) -> Self
         requires { ⌜ timesFits s self q ≡ true ⌝ }
         ensures { λ r. ⌜ r ≡ times s self q ⌝ }
     {
+        if wide::high(self.lo, q.lo) == 0 && wide::high(self.hi, q.hi) == 0 {
+            return Pair {
+                lo: self.lo * q.lo / s,
+                hi: wide::up(self.hi * q.hi, s),
+            };
+        }
         Pair {
-            lo: wide::floor_of(self.lo, q.lo, s),
-            hi: wide::ceil_of(self.hi, q.hi, s),
+            lo: wide::floor_at_scale(self.lo, q.lo, s),
+            hi: wide::ceil_at_scale(self.hi, q.hi, s),
         }
     }
 

@@ -130,11 +130,11 @@ impl Integer {
     {
         let below = self.below;
         if below {
-            Integer::of(true, wide::ceil_of(self.size, x, d))
+            Integer::of(true, wide::ceil_at_scale(self.size, x, d))
         } else {
             Integer {
                 below: false,
-                size: wide::floor_of(self.size, x, d),
+                size: wide::floor_at_scale(self.size, x, d),
             }
         }
     }
@@ -146,11 +146,11 @@ impl Integer {
     {
         let below = self.below;
         if below {
-            Integer::of(true, wide::floor_of(self.size, x, d))
+            Integer::of(true, wide::floor_at_scale(self.size, x, d))
         } else {
             Integer {
                 below: false,
-                size: wide::ceil_of(self.size, x, d),
+                size: wide::ceil_at_scale(self.size, x, d),
             }
         }
     }

@@ -121,15 +121,22 @@ pub fn floor_of(a: u64, b: u64, d: u64) -> u64
     product_by(a, b, d).quotient
 }
 
-// a * b / d rounded up: one more than (a * b - 1) / d, but 0 of 0. A remainder would take longer.
+// n / d rounded up: one more than (n - 1) / d, but 0 of 0. A remainder would take longer.
+pub fn up(n: u64, d: u64) -> u64
+    requires { ⌜ 0 < d ⌝ }
+    ensures { λ r. ⌜ r ≡ ceilDiv n d ⌝ }
+{
+    let one = pick(n == 0, 0, 1);
+    (n - one) / d + one
+}
+
+// a * b / d rounded up.
 pub fn ceil_of(a: u64, b: u64, d: u64) -> u64
     requires { ⌜ (0 < d) × (ceilDiv (a * b) d < 2 ^ 64) ⌝ }
     ensures { λ r. ⌜ r ≡ ceilDiv (a * b) d ⌝ }
 {
     if high(a, b) == 0 {
-        let n = a * b;
-        let one = pick(n == 0, 0, 1);
-        return (n - one) / d + one;
+        return up(a * b, d);
     }
     let t = parts_by(a, b, d);
     if t.rest == 0 {
@@ -137,4 +144,33 @@ pub fn ceil_of(a: u64, b: u64, d: u64) -> u64
     } else {
         t.quotient + 1
     }
+}
+
+// a * b / s rounded down, for a scale s. The scales of sheets are written out: by a constant the processor
+// divides in less time.
+pub fn floor_at_scale(a: u64, b: u64, s: u64) -> u64
+    requires { ⌜ (0 < s) × (a * b / s < 2 ^ 64) ⌝ }
+    ensures { λ r. ⌜ r ≡ a * b / s ⌝ }
+{
+    if s == 1_000_000 {
+        return floor_of(a, b, 1_000_000);
+    }
+    if s == 10_000_000 {
+        return floor_of(a, b, 10_000_000);
+    }
+    floor_of(a, b, s)
+}
+
+// The same rounded up.
+pub fn ceil_at_scale(a: u64, b: u64, s: u64) -> u64
+    requires { ⌜ (0 < s) × (ceilDiv (a * b) s < 2 ^ 64) ⌝ }
+    ensures { λ r. ⌜ r ≡ ceilDiv (a * b) s ⌝ }
+{
+    if s == 1_000_000 {
+        return ceil_of(a, b, 1_000_000);
+    }
+    if s == 10_000_000 {
+        return ceil_of(a, b, 10_000_000);
+    }
+    ceil_of(a, b, s)
 }

@@ -66,7 +66,7 @@ pub fn put_refusal(out: &mut [u8], answer: Answer) -> usize
 pub fn certify_prints(sheet: &[u8], out: &mut [u8; LONGEST_CERTIFICATE]) -> usize
     ensures { λ r. ⌜ r ≡ length (certifyPrints (now (sheet .entry))) ⌝ }
     ensures { λ _. ⌜ now (out .exit) ≡ over (certifyPrints (now (sheet .entry))) (now (out .entry)) ⌝ }
-    ensures { λ _. ⌜ 273 ≡ length (now (out .exit)) ⌝ }
+    ensures { λ _. ⌜ 289 ≡ length (now (out .exit)) ⌝ }
 {
     let answer = certificates::write(sheet, out);
     if answer.refusal != 0 {

@@ -11,7 +11,7 @@ use Rattle.pair.specs.Enclosure.{Inside, Ordered, Positive, AtMost}
 use Rattle.pair.specs.declared.Pair.{Pair}
 use Rattle.pair.proofs.Laws.{ratio-positive, ratio-ordered, minus-ordered, times-ordered, cube-root-ordered, box-wider, inside}
 use Rattle.section.specs.Working.{S, constant, units, k, k-at, k-past}
-use Rattle.section.proofs.Ends.{scale-positive, finer, own-fine, constant-exact, constant-inside, units-finer}
+use Rattle.section.proofs.Ends.{scale-positive, finer, one-fine, constant-exact, constant-inside, units-finer}
 use Rattle.section.proofs.Rising.{Rises, same-rises, plus-more}
 use Rattle.section.proofs.BoxRooms.{constant-box}
 use Rattle.section.proofs.CoefficientForms.{past-box, past-rises}
@@ -97,11 +97,11 @@ k-positive {n} q n⁺ = record { low = le-trans (ratio-positive (S n) 1 2 (lit< 
 
 k-most : AtMost 830000 (k-at 1 600000)
 unfolding k-at
-k-most = record { high = past-box own-fine (lit< tt) (lit≤ tt) .high }
+k-most = record { high = past-box one-fine (lit< tt) (lit≤ tt) .high }
 
 pub k-box : {n a : ℕ} {Q : Pair} → 0 < n → Inside n Q (a to 600000) → Inside n (k n Q) (500000 to 830000)
 unfolding k
 k-box {n} {a} n⁺ i =
     box-wider 500000 830000 (rw (mul-one n) at (k-inside {n = 1} (lit< tt) n⁺ i))
-    (record { low = le-trans (constant-box own-fine 1 2 500000 (lit< tt) refl .low) (at-least 1 (lit< tt) a .low) })
+    (record { low = le-trans (constant-box one-fine 1 2 500000 (lit< tt) refl .low) (at-least 1 (lit< tt) a .low) })
     (record { high = k-most .high })

@@ -21,15 +21,15 @@ scale-positive h = mul-pos h (lit< tt)
 pub finer : {m n : ℕ} → 0 < m → 0 < n → Finer m (n * 1000000) (m * n * 1000000)
 finer m⁺ n⁺ = record { many = m⁺; some = scale-positive n⁺; scale = omega arith }
 
--- our own scale
-pub own-fine : Fine 1
-own-fine = record { some = lit< tt; most = lit≤ tt }
+-- the scale 1,000,000
+pub one-fine : Fine 1
+one-fine = record { some = lit< tt; most = lit≤ tt }
 
--- the scale of n is n times ours
+-- the scale of n is n times that
 pub scale : {n : ℕ} → Fine n → Finer n 1000000 (S n)
 scale f = record { many = f .some; some = lit< tt; scale = refl }
 
--- and at most ten times ours
+-- and at most ten times that
 pub scale-most : {n : ℕ} → Fine n → S n ≤ 10000000
 scale-most f = omega (arith, f .most)
 

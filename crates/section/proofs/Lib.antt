@@ -1,5 +1,6 @@
 pub mod Ends
 pub mod BoxRooms
+pub mod BySquares
 pub mod Shares
 pub mod Factor
 pub mod Rising

@@ -1,4 +1,4 @@
--- No subtraction in the working of a sheet that meets the questions is cut at zero: at our own scale by the room it has there, and what is not cut at n
+-- No subtraction in the working of a sheet that meets the questions is cut at zero: at the scale 1,000,000 by the room it has there, and what is not cut at n
 -- is not cut at m × n, since the finer pairs lie inside the coarser ones.
 use Prim.Native.Nat.{ℕ, _*_, _≤_, _<_}
 use mathlib.Core.Path.{_≡_, refl}
@@ -16,7 +16,7 @@ use Rattle.section.specs.Sound.{Question2, Sound}
 use Rattle.section.specs.Working.{S, constant, units, mm}
 use Rattle.section.specs.Parts.{Fine}
 use Rattle.section.specs.Uncut.{NotCut, Uncut, QuestionsUncut}
-use Rattle.section.proofs.Ends.{own-fine, constant-inside}
+use Rattle.section.proofs.Ends.{one-fine, constant-inside}
 use Rattle.section.proofs.Formulas.{taken-off-inside, half-inside, mid-line-inside}
 use Rattle.section.proofs.Whole.{SheetDivisors, sheet-rounds-inside, sheet-kept-inside, sheet-full-inside}
 use Rattle.section.proofs.SheetNumbers.{section-numbers}
@@ -77,7 +77,7 @@ uncut-finer {n} {m} q n⁺ m⁺ d c =
     }
 
 pub uncut : {n : ℕ} (q : Sheet) → 0 < n → Sound q → Uncut n q
-uncut {n} q n⁺ s = rw (mul-one n) at (uncut-finer {n = 1} q (lit< tt) n⁺ (fine-divisors s own-fine) (fine-uncut own-fine s))
+uncut {n} q n⁺ s = rw (mul-one n) at (uncut-finer {n = 1} q (lit< tt) n⁺ (fine-divisors s one-fine) (fine-uncut one-fine s))
 
 -- in the questions, by the ranges of b, c and tnom
 pub questions-uncut : (q : Sheet) → Question2 q → QuestionsUncut q

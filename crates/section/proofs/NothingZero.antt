@@ -14,7 +14,7 @@ use Rattle.section.specs.Sound.{Sound}
 use Rattle.section.specs.Working.{S, whole, mm, mid-line, k, cp-of}
 use Rattle.section.specs.Divisors.{AboveZero, StiffenerAboveZero, DivisorsAboveZero}
 use Rattle.section.proofs.PartsInside.{StiffenerInside}
-use Rattle.section.proofs.Ends.{scale-positive, own-fine, finer, constant-exact, constant-inside}
+use Rattle.section.proofs.Ends.{scale-positive, one-fine, finer, constant-exact, constant-inside}
 use Rattle.section.proofs.Coefficient.{k-inside, k-positive}
 use Rattle.section.proofs.Formulas.{whole-times-positive, mid-line-inside, lip-line-inside, J-inside, L-inside}
 use Rattle.section.proofs.FlangeRounds.{StiffenerDivisors}
@@ -79,4 +79,4 @@ module _ {n m : ℕ} (n⁺ : 0 < n) (m⁺ : 0 < m) where
       }
 
 pub nothing-zero : {n : ℕ} (q : Sheet) → 0 < n → Sound q → DivisorsAboveZero n q
-nothing-zero {n} q n⁺ s = rw (mul-one n) at (above-zero-finer {n = 1} (lit< tt) n⁺ q (omega (arith, s .q2 .gm0 .0)) (fine-divisors s own-fine))
+nothing-zero {n} q n⁺ s = rw (mul-one n) at (above-zero-finer {n = 1} (lit< tt) n⁺ q (omega (arith, s .q2 .gm0 .0)) (fine-divisors s one-fine))

@@ -1,20 +1,18 @@
 -- ρ at one end, as the code works it: nothing that it forms passes a word; and ρ of a u² up to the square of the limit.
 use mathlib.Core.Path.{_≡_, refl, ap, ap₂, _∙_}
-use Prim.Native.Nat.{ℕ, _-_, _*_, _/_, _^_, _≤_, _<_, min}
-use native.Mathlib.Nat.{lt-of-le-of-lt, mul-assoc, mul-le-mul, mul-le-mul-right, mul-le-mul-left, div-le-of-le-mul, sub-le}
+use Prim.Native.Nat.{ℕ, _-_, _*_, _^_, _≤_, _<_, min}
+use native.Mathlib.Nat.{lt-of-le-of-lt, mul-assoc, mul-le-mul, mul-le-mul-right, mul-le-mul-left, sub-le}
 use native.Mathlib.Omega.{arith}
 use borrow.Author.Tests.{le-leb, lt-leb}
 use lib.Dec.{lit<}
-use Rattle.pair.specs.Rounding.{ceilDiv}
 use Rattle.pair.specs.Pairs.{_to_, root}
 use Rattle.pair.specs.Enclosure.{Inside}
 use Rattle.pair.specs.declared.Pair.{Pair}
-use Rattle.pair.proofs.Numbers.{ceil-le}
 use Rattle.pair.proofs.Laws.{root-at-most}
 use Rattle.section.specs.Working.{S, whole, units, ρ-at, ρ, ρ-plane, ρ-lip}
 use Rattle.section.specs.Parts.{Fine}
-use Rattle.section.specs.Room.{Slim, Curve}
-use Rattle.section.proofs.Ends.{scale-most, scale-square-most}
+use Rattle.section.specs.Room.{Slim, Curve, Squared}
+use Rattle.section.proofs.Ends.{scale-most}
 use Rattle.section.proofs.BoxRooms.{constant-box}
 
 -- one end of a slenderness, with the limit and the number taken off that its ρ has
@@ -47,26 +45,14 @@ module _ {n limit less u : ℕ} (r : Share n limit less u) where
   dividend-fits =
       lt-of-le-of-lt (mul-le-mul {n₁ = u - less} {m₁ = S n} {n₂ = 400000000} {m₂ = 10000000} (omega (arith, r .most, r .fine .most)) (scale-most (r .fine))) (omega arith)
 
-  below-square : (u - less) * S n * S n ≤ S n * S n * u
-  below-square = omega (arith, mul-le-mul-right (S n * S n) (sub-le u less))
-
-  pub square-fits : u * u < 2 ^ 64
-  square-fits =
-      lt-of-le-of-lt (mul-le-mul {n₁ = u} {m₁ = u} {n₂ = 400000000} {m₂ = 400000000} (omega (arith, r .most, r .fine .most)) (omega (arith, r .most, r .fine .most))) (omega arith)
-
-  square-positive : limit < u → 0 < u * u
-  square-positive h = mul-le-mul {n₁ = 1} {m₁ = 1} {n₂ = u} {m₂ = u} (omega arith) (omega arith)
-
-  -- what is divided is at most S × S times what divides it
-  by-square : limit < u → (u - less) * S n * S n ≤ S n * S n * (u * u)
-  by-square h = omega (arith, below-square, mul-le-mul-left {m = u} {n = u * u} (S n * S n) (omega (arith, mul-le-mul-left {m = 1} {n = u} u (omega arith))))
-
-  pub down-fits : limit < u → (0 < u * u) × ((u - less) * S n * S n / (u * u) < 2 ^ 64)
-  down-fits h =
-      (square-positive h, lt-of-le-of-lt {m = S n * S n} (div-le-of-le-mul (u * u) (omega (arith, by-square h))) (omega (arith, scale-square-most (r .fine))))
-
-  pub up-fits : limit < u → (0 < u * u) × (ceilDiv ((u - less) * S n * S n) (u * u) < 2 ^ 64)
-  up-fits h = (square-positive h, lt-of-le-of-lt (ceil-le (square-positive h) (by-square h)) (omega (arith, scale-square-most (r .fine))))
+  -- what is divided by the square of u
+  pub squared : limit < u → Squared ((u - less) * S n) (S n) u
+  squared h = record {
+    some = omega arith;
+    most = omega (arith, r .most, r .fine .most);
+    scale = omega (arith, r .low);
+    part = mul-le-mul-right (S n) (sub-le u less);
+  }
 
   -- rounded down or up
   module _ (quotient : ℕ → ℕ → ℕ) where

@@ -1,4 +1,4 @@
--- Every operation of the working of a sheet that meets the questions has room, at our scale and up to ten times it.
+-- Every operation of the working of a sheet that meets the questions has room, at the scale 1,000,000 and up to ten times it.
 use Prim.Native.Nat.{ℕ}
 use Rattle.section.specs.declared.Sheet.{Sheet}
 use Rattle.section.specs.Sound.{Sound}

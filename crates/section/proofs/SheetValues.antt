@@ -24,6 +24,7 @@ same-values us vs e =
       e 9 (omega arith),
       e 10 (omega arith),
       e 11 (omega arith),
+      e 12 (omega arith),
     )
 
 -- values one by one

@@ -10,7 +10,7 @@ use Rattle.section.specs.Working.{hp-of, cp-of, bp₁-of, bp₂-of, memb
 use Rattle.section.specs.Parts.{Fine, effective-of, full-of, round-of}
 use Rattle.section.specs.Room.{FlangeRoom}
 use Rattle.section.specs.SectionRoom.{EffectiveRoom}
-use Rattle.section.proofs.Ends.{own-fine}
+use Rattle.section.proofs.Ends.{one-fine}
 use Rattle.section.proofs.FlangeRounds.{box-divisors}
 use Rattle.section.proofs.Whole.{SheetDivisors, sheet-divisors}
 use Rattle.section.proofs.EffectiveBoxes.{EffectiveBox}
@@ -77,4 +77,4 @@ module _ {q : Sheet} (s : Sound q) {n : ℕ} (f : Fine n) where
 
 -- at any scale
 pub sound-divisors : {n : ℕ} (q : Sheet) → 0 < n → Sound q → SheetDivisors n q
-sound-divisors q n⁺ s = sheet-divisors q n⁺ (fine-divisors s own-fine)
+sound-divisors q n⁺ s = sheet-divisors q n⁺ (fine-divisors s one-fine)

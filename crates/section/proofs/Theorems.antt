@@ -1,6 +1,8 @@
 -- What is proved of written constants, and of every sheet that meets questions 2 to 10, in one place.
 use Prim.Native.Nat.{ℕ, _*_, _<_}
 use mathlib.Core.List.{List, _∷_}
+use mathlib.Core.Logic.{_⊎_, inl, inr}
+use mathlib.Core.Path.{_≡_}
 use native.Mathlib.Omega.{arith}
 use Rattle.section.specs.declared.Sheet.{Sheet}
 use Rattle.section.specs.Sheets.{sheetOf, fineness}
@@ -47,10 +49,14 @@ pub finer-working-held : {n m : ℕ} (q : Sheet) → 0 < n → 0 < m → Sound q
 finer-working-held q n⁺ m⁺ s a =
     held n⁺ m⁺ q (omega (arith, s .q2 .gm0 .0)) (sound-divisors q n⁺ s) a
 
+either-fine : {n : ℕ} → (n ≡ 1) ⊎ (n ≡ 10) → Fine n
+either-fine (inl e) = record { some = omega (arith, e); most = omega (arith, e) }
+either-fine (inr e) = record { some = omega (arith, e); most = omega (arith, e) }
+
 -- a sheet's own fineness is one that the code works at
 pub fineness-fine : (q : Sheet) → Question2 q → Fine (fineness q)
 unfolding fineness
-fineness-fine q h = record { some = omega arith; most = omega arith }
+fineness-fine q h = either-fine (h .fine)
 
 -- two sheets that are alike but for b1 and b2, which are exchanged, have chi1 and chi2 exchanged, and the same area and axial resistance
 pub flanges-exchanged : (form h b1 b2 : ℕ) (rest : List ℕ)

@@ -133,6 +133,6 @@ module _ {n m : ℕ} (n⁺ : 0 < n) (m⁺ : 0 < m) (q : Sheet) (d : SheetDivisor
         shift = signed-minus-inside y w;
       }
 
--- what can be divided by at our own scale can be divided by at every fineness
+-- what can be divided by at the scale 1,000,000 can be divided by at every fineness
 pub sheet-divisors : {n : ℕ} (q : Sheet) → 0 < n → SheetDivisors 1 q → SheetDivisors n q
 sheet-divisors {n} q n⁺ d = rw (mul-one n) at (sheet-divisors-finer {n = 1} (lit< tt) n⁺ q d)

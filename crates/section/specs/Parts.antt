@@ -9,7 +9,7 @@ use Rattle.section.specs.declared.EffectiveParts.{EffectiveParts}
 use Rattle.section.specs.declared.Sheet.{Sheet}
 use Rattle.section.specs.Working.{S, core, strength, g, J, T, kf, D, ud⁴, χ-of, rounds, full, effective, hp-of, cp-of, bp₁-of, bp₂-of, member-of}
 
--- our scale, or up to ten times it
+-- the scale 1,000,000, or up to ten times it
 pub record Fine (n : ℕ) : Type 0 where
   pub some : 0 < n
   pub most : n ≤ 10

@@ -1,7 +1,7 @@
 -- This need not be believed. It is what the operations of the working ask of their operands (specs/Fits of crate pair), a field for each,
 -- gathered for each function: here those of the rounds, in specs/SectionRoom those of the whole section. It stands in specs because contracts
 -- cite it, those of the functions beneath `work`.
-use Prim.Native.Nat.{ℕ, _*_, _≤_}
+use Prim.Native.Nat.{ℕ, _+_, _*_, _≤_, _<_}
 use mathlib.Core.Path.{_≡_}
 use mathlib.Core.Bool.{true}
 use Rattle.pair.specs.Pairs.{root, cubeRoot}
@@ -20,6 +20,20 @@ pub record Curve (full less : ℕ) : Type 0 where
   pub low : 500000 ≤ full
   pub high : full ≤ 1000000
   pub twice : 2 * less ≤ full
+
+-- what is divided by the square of a slenderness u: a is at most u at the scale s, which is at most twice u
+pub record Squared (a s u : ℕ) : Type 0 where
+  pub some : 0 < u
+  pub most : u ≤ 400000000
+  pub scale : s ≤ 2 * u
+  pub part : a ≤ u * s
+
+-- x by the square of u is about q, and r is left
+pub record SquareDivided (x u q r : ℕ) : Type 0 where
+  pub sum : q * (u * u) + r ≡ x
+  pub small : r < 3 * (u * u)
+  pub most : q ≤ 640000000000000000
+  pub square : u * u ≤ 160000000000000000
 
 module _ (n : ℕ) where
   open Operations (operations n) using (_⊗_, _⊘_)

@@ -4,11 +4,11 @@ use Prim.Native.Nat.{ℕ, _-_, _*_}
 use mathlib.Core.List.{List, [], _∷_}
 use lib.ListN.{getD}
 use Rattle.section.specs.declared.Sheet.{Sheet}
-use Rattle.questions.specs.Claims.{Claim, _≤?_, _≡?_, _and_, pairwise}
+use Rattle.questions.specs.Claims.{Claim, _≤?_, _≡?_, _and_, _or_, pairwise}
 
 -- how many numbers a sheet has: one for each of its lines
 abbrev pub sheetLines : ℕ
-sheetLines = 12
+sheetLines = 13
 
 -- the value of a line, counted from 1
 abbrev pub line : List ℕ → ℕ → ℕ
@@ -30,21 +30,26 @@ sheetOf vs =
       gm0 = line vs 10;
       rounds = line vs 11;
       allow = line vs 12;
+      fine = line vs 13;
     }
 
 -- its values in the order of the lines
 unfoldable pub valuesOf : Sheet → List ℕ
 valuesOf q =
-    q .form ∷ q .h ∷ q .b1 ∷ q .b2 ∷ q .c ∷ q .r ∷ q .tnom .0 ∷ q .t .0 ∷ q .fyb ∷ q .gm0 ∷ q .rounds ∷ q .allow ∷ []
+    q .form ∷ q .h ∷ q .b1 ∷ q .b2 ∷ q .c ∷ q .r ∷ q .tnom .0 ∷ q .t .0 ∷ q .fyb ∷ q .gm0 ∷ q .rounds ∷ q .allow ∷ q .fine ∷ []
 
--- the fineness of its working: the scale is so many times 1,000,000
+-- the fineness of its working: our scale, the sheet's own, is so many times 1,000,000 (W-204)
 unfoldable pub fineness : Sheet → ℕ
-fineness q = 1
+fineness q = q .fine
 
 -- from `least` to `most`, both included
 infix 80 _upto_
 abbrev pub _upto_ : ℕ → ℕ → ℕ → Claim
 _upto_ least most v = least ≤? v and v ≤? most
+
+-- one of two values
+abbrev pub one-of : ℕ → ℕ → ℕ → Claim
+one-of a b v = v ≡? a or v ≡? b
 
 -- Is every value in range? What each may be, in the order of the lines; form is 0 for C and 1 for Z.
 abbrev pub ranges : List (ℕ → Claim)
@@ -61,6 +66,7 @@ ranges =
     ∷ (1000 upto 1500)
     ∷ (0 upto 8)
     ∷ (0 upto 1000)
+    ∷ one-of 1 10
     ∷ []
 
 -- the claim of each line: its value is in range

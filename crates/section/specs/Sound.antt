@@ -24,6 +24,7 @@ pub record Question2 (q : Sheet) : Type 0 where
   pub gm0 : Holds (range-of 10 (q .gm0))
   pub rounds : Holds (range-of 11 (q .rounds))
   pub allow : Holds (range-of 12 (q .allow))
+  pub fine : Holds (range-of 13 (q .fine))
 
 pub record Question3 (q : Sheet) : Type 0 where
   pub thin : Holds (core-within (q .t .0) (q .tnom .0))

@@ -4,15 +4,16 @@
 use pair::Pair;
 use pair::TwoPairs;
 use pair::wide;
+use pair::wide::Divided;
 ghost use mathlib.Core.Path.{_≡_};
 ghost use mathlib.Core.Bool.{true};
-ghost use Prim.Native.Nat.{_*_, _/_, _≤_, _<_, min, max};
+ghost use Prim.Native.Nat.{_*_, _/_, _^_, _≤_, _<_, min, max};
 ghost use Rattle.pair.specs.Rounding.{ceilDiv};
 ghost use Rattle.pair.specs.Pairs.{root};
 ghost use Rattle.pair.specs.Fits.{rootFits};
 ghost use Rattle.section.specs.Working.{S, ρ, ρ-plane, ρ-lip, χ-before, χ-from, χ};
 ghost use Rattle.section.specs.Parts.{Fine};
-ghost use Rattle.section.specs.Room.{Slim, Curve};
+ghost use Rattle.section.specs.Room.{Slim, Curve, Squared, SquareDivided};
 
 fn smaller(a: u64, b: u64) -> u64
     ensures { λ r. ⌜ r ≡ min a b ⌝ }
@@ -36,6 +37,60 @@ const LIP_FULL: u64 = 748_000;
 
 const LIP_LESS: u64 = 188_000;
 
+// n / d rounded down, where n is less than three times d: without a division, and without a branch, since none can be
+// foreseen.
+fn times_in(n: u64, d: u64) -> u64
+    requires { ⌜ (n < 3 * d) × (3 * d < 2 ^ 64) ⌝ }
+    ensures { λ r. ⌜ r ≡ n / d ⌝ }
+{
+    wide::pick(n < d, 0, 1) + wide::pick(n < 2 * d, 0, 1)
+}
+
+// The same rounded up.
+fn times_to(n: u64, d: u64) -> u64
+    requires { ⌜ (n < 3 * d) × (3 * d < 2 ^ 64) ⌝ }
+    ensures { λ r. ⌜ r ≡ ceilDiv n d ⌝ }
+{
+    wide::pick(n == 0, 0, 1) + wide::pick(n <= d, 0, 1) + wide::pick(n <= 2 * d, 0, 1)
+}
+
+// a * s divided by u twice: the second quotient, and what both divisions leave, put together over u².
+fn twice_by(a: u64, s: u64, u: u64) -> Divided
+    requires { ⌜ Squared a s u ⌝ }
+    ensures { λ t. ⌜ SquareDivided (a * s) u (t .quotient) (t .rest) ⌝ }
+{
+    let first = a / u * s;
+    Divided {
+        quotient: first / u,
+        rest: first % u * u + a % u * s,
+    }
+}
+
+// a * s / u² rounded down, of a share past its limit. Where a * s passes a word it is divided by u twice: the same, in
+// less time.
+fn by_square_down(a: u64, s: u64, u: u64) -> u64
+    requires { ⌜ Squared a s u ⌝ }
+    ensures { λ r. ⌜ r ≡ a * s / (u * u) ⌝ }
+{
+    if wide::high(a, s) == 0 {
+        return wide::floor_of(a, s, u * u);
+    }
+    let t = twice_by(a, s, u);
+    t.quotient + times_in(t.rest, u * u)
+}
+
+// The same rounded up.
+fn by_square_up(a: u64, s: u64, u: u64) -> u64
+    requires { ⌜ Squared a s u ⌝ }
+    ensures { λ r. ⌜ r ≡ ceilDiv (a * s) (u * u) ⌝ }
+{
+    if wide::high(a, s) == 0 {
+        return wide::ceil_of(a, s, u * u);
+    }
+    let t = twice_by(a, s, u);
+    t.quotient + times_to(t.rest, u * u)
+}
+
 // The part of a width that counts: 1 up to a slenderness of full, else at most (u - less) / u².
 pub fn share(n: u64, full: u64, less: u64, u: Pair) -> Pair
     requires { ⌜ Slim n u × Curve full less ⌝ }
@@ -49,11 +104,11 @@ pub fn share(n: u64, full: u64, less: u64, u: Pair) -> Pair
     if high <= limit {
         return Pair { lo: s, hi: s };
     }
-    let least = smaller(s, wide::floor_of((high - off) * s, s, high * high));
+    let least = smaller(s, by_square_down((high - off) * s, s, high));
     if low <= limit {
         return Pair { lo: least, hi: s };
     }
-    let most = smaller(s, wide::ceil_of((low - off) * s, s, low * low));
+    let most = smaller(s, by_square_up((low - off) * s, s, low));
     Pair {
         lo: least,
         hi: most,

@@ -19,7 +19,7 @@ pub struct Nominal(pub u64);
 pub struct Core(pub u64);
 
 // How many numbers a sheet has: one for each of its lines.
-pub const SHEET_LINES: usize = 12;
+pub const SHEET_LINES: usize = 13;
 
 // The numbers of a sheet, lengths in 0.01 mm.
 pub struct Sheet {
@@ -35,6 +35,7 @@ pub struct Sheet {
     pub gm0: u64,
     pub rounds: u64,
     pub allow: u64,
+    pub fine: u64,
 }
 
 // A flange with its lip: its mid-line width, and u² of flange and lip at full thickness.

@@ -5,6 +5,7 @@ use crate::SHEET_LINES;
 use crate::Sheet;
 ghost use mathlib.Core.Path.{_≡_};
 ghost use Rattle.section.specs.Sheets.{sheetOf, valuesOf, fineness};
+ghost use Rattle.section.specs.Sound.{Question2};
 
 pub fn sheet_of(values: [u64; SHEET_LINES]) -> Sheet
     ensures { λ q. ⌜ q ≡ sheetOf values ⌝ }
@@ -22,6 +23,7 @@ pub fn sheet_of(values: [u64; SHEET_LINES]) -> Sheet
         gm0: values[9],
         rounds: values[10],
         allow: values[11],
+        fine: values[12],
     }
 }
 
@@ -43,12 +45,15 @@ pub fn values_of(q: Sheet) -> [u64; SHEET_LINES]
         q.gm0,
         q.rounds,
         q.allow,
+        q.fine,
     ]
 }
 
-// The fineness of its working: the scale is so many times 1,000,000.
+// The fineness of its working: its own scale is so many times 1,000,000. (W-204.) Both values are written
+// out, so that the compiler knows that there are no others.
 pub fn fineness_of(q: Sheet) -> u64
+    requires { ⌜ Question2 q ⌝ }
     ensures { λ n. ⌜ n ≡ fineness q ⌝ }
 {
-    1
+    if q.fine == 1 { 1 } else { 10 }
 }

@@ -1,7 +1,7 @@
 //! What is tried of the certificate's calls, in groups.
 
 use crate::compare::{Agreed, Call};
-use reference::cases::{certificates, sheets, text_of, with_figure_moved, z_section};
+use reference::cases::{certificates, fine_section, sheets, text_of, with_figure_moved, z_section};
 use reference::chance::Chance;
 use reference::damage::{damaged, every_fault, moved};
 use reference::edges::edges;
@@ -9,14 +9,14 @@ use reference::finer::{failures, MULTIPLES};
 use reference::generate::sections;
 use reference::named::{SHEET_A, SHEET_B};
 use reference::random::any_section;
-use reference::sheet::{Figures, Numbers, Sheet};
+use reference::sheet::{Figures, Numbers, Sheet, RANGES};
 use reference::text::{read_certificate, LONGEST_CERTIFICATE as LONGEST, MOST_SPELT};
 
 pub type Tried = Result<Agreed, String>;
 
 /// The sheets on which every place is tried.
 fn chosen() -> Vec<Sheet> {
-    let mut chosen = vec![SHEET_A, SHEET_B, z_section()];
+    let mut chosen = vec![SHEET_A, SHEET_B, z_section(), fine_section()];
     chosen.extend(sections().into_iter().skip(40).step_by(100));
     chosen
 }
@@ -67,13 +67,15 @@ pub fn kept_cases() -> Tried {
     Ok(agreed)
 }
 
-/// The greatest word, 0, and form 2, in each place of some sheets.
+/// The numbers beside each range, 0, and large ones up to the greatest word, in each place of
+/// some sheets.
 pub fn extreme_numbers() -> Tried {
     let mut tried = vec![[u64::MAX; Sheet::LINES]];
     for section in chosen() {
-        for place in 0..Sheet::LINES {
+        for (place, range) in RANGES.into_iter().enumerate() {
             let with = |extreme| section.with_number(place, extreme).numbers();
-            tried.extend([0, 2, 1 << 32, u64::MAX].map(with));
+            tried.extend(range.just_outside().into_iter().map(with));
+            tried.extend([0, 100, 1 << 32, u64::MAX].map(with));
         }
     }
     given(tried)

@@ -7,15 +7,18 @@ use reference::sheet::{Numbers, Sheet};
 use reference::thresholds::{kept, search, Near, KEPT, THRESHOLDS};
 use reference::working::worked;
 
-/// The kept sheets near every threshold and, where the run is long, twice as many
-/// that are searched for. Fewer than were kept, at an end and distance that occur,
-/// are an error.
+/// The kept sheets near every threshold, at either scale, and, where the run is long,
+/// twice as many that are searched for. Fewer than were kept, at an end and distance that
+/// occur, are an error.
 pub fn thresholds(seed: u64, long: bool) -> Result<Vec<Sheet>, String> {
     let mut sheets = kept();
     if long {
         let mut chance = Chance::seeded(seed);
-        let found = |threshold| search(threshold, &mut chance, 2 * KEPT);
-        sheets.extend(THRESHOLDS.iter().flat_map(found));
+        for threshold in &THRESHOLDS {
+            for (fine, kept) in KEPT {
+                sheets.extend(search(threshold, fine, &mut chance, 2 * kept));
+            }
+        }
     }
     print_near(&sheets)?;
     Ok(sheets)
@@ -23,16 +26,19 @@ pub fn thresholds(seed: u64, long: bool) -> Result<Vec<Sheet>, String> {
 
 fn print_near(sheets: &[Sheet]) -> Result<(), String> {
     println!(
-        "\n{:40} {:>6}  {:23}  {:23}",
-        "sheets within two units of", "", "lower end -2 .. 2", "upper end -2 .. 2"
+        "\n{:40} {:4} {:>6}  {:23}  {:23}",
+        "sheets within two units of", "fine", "", "lower end -2 .. 2", "upper end -2 .. 2"
     );
     let workings: Vec<_> = sheets.iter().map(|&s| (s, worked(&s))).collect();
     for threshold in &THRESHOLDS {
-        let near = Near::of(threshold, &workings);
-        let [lower, upper] = near.at_distances.map(row);
-        println!("{:40} {:6}  {lower}  {upper}", threshold.name, near.sheets);
-        if near.fewest(threshold) < KEPT {
-            return Err(format!("too few sheets: {}\n", threshold.name));
+        for (fine, kept) in KEPT {
+            let near = Near::of(threshold, fine, &workings);
+            let [lower, upper] = near.at_distances.map(row);
+            let (name, sheets) = (threshold.name, near.sheets);
+            println!("{name:40} {fine:4} {sheets:6}  {lower}  {upper}");
+            if near.fewest(threshold) < kept {
+                return Err(format!("too few sheets: {name}, fine={fine}\n"));
+            }
         }
     }
     println!("where 0 stands no end can lie: tests/reference/src/thresholds.rs says why");
@@ -58,6 +64,8 @@ pub fn at_limits(seed: u64, wanted: usize) -> Vec<Numbers> {
         println!("{name:40} {sum:6}  {}", row(counts));
         all.extend(found.concat());
     }
-    println!("where 0 stands a number would lie below 0, or be a third form");
+    println!(
+        "where 0 stands a number would lie below 0, be a third form, or a fine between 1 and 10"
+    );
     all
 }

@@ -1,5 +1,7 @@
 //! Random numbers that a seed repeats.
 
+use crate::sheet::Range;
+
 /// The seed of everything that is kept in the repository.
 pub const SEED: u64 = 0x9E37_79B9_7F4A_7C15;
 
@@ -32,6 +34,14 @@ impl Chance {
 
     pub fn one_of<T: Copy>(&mut self, choices: &[T]) -> T {
         choices[self.place(choices.len())]
+    }
+
+    /// A value of a line.
+    pub fn one_in_range(&mut self, range: Range) -> u64 {
+        match range {
+            Range::Span(least, greatest) => self.between(least, greatest),
+            Range::Either(one, other) => self.one_of(&[one, other]),
+        }
     }
 
     /// True once in n times.

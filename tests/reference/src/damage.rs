@@ -178,12 +178,11 @@ pub fn damaged(chance: &mut Chance, text: &[u8]) -> Vec<u8> {
 pub fn moved(chance: &mut Chance, mut numbers: Numbers) -> Numbers {
     for _ in 0..chance.between(1, 3) {
         let i = chance.place(numbers.len());
-        let (least, greatest) = RANGES[i];
         numbers[i] = match chance.between(0, 5) {
             0 => numbers[i].saturating_add(1),
             1 => numbers[i].saturating_sub(1),
-            2 => chance.one_of(&[least, greatest, greatest + 1, least.saturating_sub(1)]),
-            3 | 4 => chance.between(least, greatest),
+            2 => chance.one_of(&RANGES[i].ends_and_beside()),
+            3 | 4 => chance.one_in_range(RANGES[i]),
             _ => number(chance),
         };
     }

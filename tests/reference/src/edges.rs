@@ -7,9 +7,8 @@ use crate::named::{LONGEST_LIP, SHEET_A, SHEET_B};
 use crate::random::meets_questions;
 use crate::sheet::{Numbers, Sheet, RANGES};
 
-/// The neighbours between the sheet's own value, which passes, and `outside`,
-/// which does not. The questions are linear in each number, so the values that
-/// pass have no gap.
+/// Two neighbours from the sheet's own value, which passes, to `outside`, which does
+/// not: the first passes, the second does not.
 fn edge(sheet: &Sheet, place: usize, outside: u64) -> [u64; 2] {
     let mut inside = sheet.numbers()[place];
     let mut outside = outside;
@@ -26,10 +25,9 @@ fn edge(sheet: &Sheet, place: usize, outside: u64) -> [u64; 2] {
 
 fn edges_of(sheet: &Sheet) -> Vec<Sheet> {
     let mut found = Vec::new();
-    for (place, (least, greatest)) in RANGES.into_iter().enumerate() {
+    for (place, range) in RANGES.into_iter().enumerate() {
         let with = |value| sheet.with_number(place, value);
-        found.extend([least, greatest, greatest + 1].map(with));
-        found.extend(least.checked_sub(1).map(with));
+        found.extend(range.ends_and_beside().into_iter().map(with));
         for outside in [0, u64::MAX] {
             if !meets_questions(&with(outside)) {
                 found.extend(edge(sheet, place, outside).map(with));
@@ -43,7 +41,7 @@ fn edges_of(sheet: &Sheet) -> Vec<Sheet> {
 /// and a sheet of the largest numbers.
 pub fn edges() -> Vec<Numbers> {
     let mut bases = vec![SHEET_A, SHEET_B, LONGEST_LIP];
-    bases.extend(sections().into_iter().skip(3).step_by(60));
+    bases.extend(sections().into_iter().skip(3).step_by(80));
     let mut found: Vec<Sheet> = bases.iter().flat_map(edges_of).collect();
     found.push(Sheet::from_numbers([u64::MAX; Sheet::LINES]));
     found.iter().map(Sheet::numbers).collect()

@@ -8,7 +8,8 @@ use crate::pair::divide_up;
 use crate::random::*;
 use crate::rules::{thousandths, FACTOR_JUMPS_AT, FACTOR_ONE_TO, OUTSTAND, SUPPORTED};
 use crate::sheet::place::{B1, C, H, ROUNDS, T, TNOM};
-use crate::sheet::{Figures, Sheet, RANGES};
+use crate::sheet::{Figures, Sheet, FINENESSES, RANGES};
+use crate::thresholds::kept;
 use crate::working::{worked, Working};
 use std::sync::OnceLock;
 
@@ -21,14 +22,14 @@ const SEARCHES: [Search; 21] = [
     (random_section, 90),
     (ratio_just_past, 20),
     (ratio_at_threshold, 8),
-    (web_at_threshold, 24),
-    (flange_at_threshold, 24),
-    (refined_flange_at_threshold, 24),
-    (lip_at_threshold, 24),
-    (refined_lip_at_threshold, 24),
-    (ud_at_threshold, 36),
-    (jump_in_last_round, 36),
-    (jump_in_earlier_round, 36),
+    (web_at_threshold, 12),
+    (flange_at_threshold, 12),
+    (refined_flange_at_threshold, 12),
+    (lip_at_threshold, 12),
+    (refined_lip_at_threshold, 12),
+    (ud_at_threshold, 18),
+    (jump_in_last_round, 18),
+    (jump_in_earlier_round, 18),
     (lips_past_web, 16),
     (lip_past_flange, 16),
     (much_coating, 30),
@@ -39,7 +40,8 @@ const SEARCHES: [Search; 21] = [
     (lip_across_flange, 12),
 ];
 
-/// Sheet B first, sheet A, the longest lip, then all searches; searched once.
+/// Sheet B first, sheet A, the longest lip, then all searches, then the finer of the kept
+/// sheets near the thresholds, of which a search here finds few. Searched once.
 pub fn sections() -> Vec<Sheet> {
     static FOUND: OnceLock<Vec<Sheet>> = OnceLock::new();
     FOUND.get_or_init(search_all).clone()
@@ -66,6 +68,8 @@ fn search_all() -> Vec<Sheet> {
             }
         }
     }
+    let finer = |sheet: &Sheet| sheet.fine == FINENESSES[1];
+    found.extend(kept().into_iter().filter(finer));
     found
 }
 
@@ -112,19 +116,19 @@ fn searched(
 
 /// tnom at least three times t.
 fn much_coating(chance: &mut Chance) -> Option<Sheet> {
-    let t = chance.between(RANGES[T].0, 200);
-    let tnom = chance.between(3 * t, RANGES[TNOM].1);
+    let t = chance.between(RANGES[T].ends().0, 200);
+    let tnom = chance.between(3 * t, RANGES[TNOM].ends().1);
     try_section(chance, tnom, t, SELDOM)
 }
 
 /// Form Z with hp < c/2.
 fn lips_past_web(chance: &mut Chance) -> Option<Sheet> {
-    let t = chance.between(190, RANGES[T].1);
-    let tnom = chance.between(t, RANGES[TNOM].1);
-    let widest = RANGES[B1].1;
+    let t = chance.between(190, RANGES[T].ends().1);
+    let tnom = chance.between(t, RANGES[TNOM].ends().1);
+    let widest = RANGES[B1].ends().1;
     let mut sheet = try_section(chance, tnom, t, SELDOM)?;
     sheet.form = 1;
-    sheet.h = any_in_range(chance, (RANGES[H].0, 6500), 3);
+    sheet.h = any_in_range(chance, (RANGES[H].ends().0, 6500), 3);
     sheet.b1 = any_in_range(chance, (11_000, widest), 3);
     sheet.b2 = if chance.one_in(2) {
         sheet.b1
@@ -150,7 +154,7 @@ fn lip_past_flange(chance: &mut Chance) -> Option<Sheet> {
 /// Form Z with hp − c2÷2 straddling zero.
 fn lip_across_flange(chance: &mut Chance) -> Option<Sheet> {
     let mut sheet = lips_past_web(chance)?;
-    sheet.rounds = chance.between(0, RANGES[ROUNDS].1);
+    sheet.rounds = chance.one_in_range(RANGES[ROUNDS]);
     let across = |w: &Working| straddles_zero(lip_middle(w));
     searched(&sheet, H, |w| lip_middle(w).lo, 0, across)
 }
@@ -214,7 +218,7 @@ fn lip_at_threshold(chance: &mut Chance) -> Option<Sheet> {
 /// stiffeners.
 fn with_refining(chance: &mut Chance) -> Option<(Sheet, usize, usize)> {
     let mut sheet = random_section(chance)?;
-    sheet.rounds = chance.between(1, RANGES[ROUNDS].1);
+    sheet.rounds = chance.between(1, RANGES[ROUNDS].ends().1);
     let round = if chance.one_in(2) {
         1
     } else {

@@ -41,7 +41,8 @@ pub fn limits() -> Vec<Limit> {
         constant: factor * end as i128,
     };
     let mut limits = Vec::new();
-    for (place, (least, greatest)) in RANGES.into_iter().enumerate() {
+    for (place, range) in RANGES.into_iter().enumerate() {
+        let (least, greatest) = range.ends();
         limits.push(range_end(-1, place, least));
         limits.push(range_end(1, place, greatest));
     }

@@ -3,12 +3,13 @@
 use crate::sheet::Sheet;
 
 /// Sheet B, the profile of source 002.
-pub const SHEET_B: Sheet =
-    Sheet::from_numbers([0, 20000, 7400, 6600, 2080, 300, 200, 196, 350, 1000, 1, 10]);
+pub const SHEET_B: Sheet = Sheet::from_numbers([
+    0, 20000, 7400, 6600, 2080, 300, 200, 196, 350, 1000, 1, 10, 1,
+]);
 
 /// Sheet A, the ninth marked case.
 pub const SHEET_A: Sheet =
-    Sheet::from_numbers([0, 7200, 4200, 4200, 1600, 300, 200, 200, 235, 1000, 0, 0]);
+    Sheet::from_numbers([0, 7200, 4200, 4200, 1600, 300, 200, 200, 235, 1000, 0, 0, 1]);
 
 /// The thirteenth marked case: 5c = 3b, which question 7 passes and question 9,
 /// on the mid-lines, refuses.
@@ -24,5 +25,5 @@ pub const LIP_LONG_ON_MID_LINES: Sheet = Sheet {
 
 /// The longest lip that the questions leave on the lowest web.
 pub const LONGEST_LIP: Sheet = Sheet::from_numbers([
-    1, 4000, 20000, 20000, 11966, 0, 334, 334, 200, 1500, 8, 1000,
+    1, 4000, 20000, 20000, 11966, 0, 334, 334, 200, 1500, 8, 1000, 1,
 ]);

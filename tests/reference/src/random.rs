@@ -2,7 +2,7 @@
 
 use crate::chance::Chance;
 use crate::damage::{damaged, moved};
-use crate::sheet::place::{ALLOW, B1, B2, C, FYB, GM0, H, R, ROUNDS, T, TNOM};
+use crate::sheet::place::{ALLOW, B1, B2, C, FINE, FORM, FYB, GM0, H, R, ROUNDS, T, TNOM};
 use crate::sheet::{ask_before_working, Sheet, RANGES};
 use crate::text::{sheet_text, MOST_SPELT};
 
@@ -26,13 +26,13 @@ pub(crate) fn room(sheet: &Sheet, place: usize) -> Option<(u64, u64)> {
 }
 
 fn web_room(sheet: &Sheet) -> (u64, u64) {
-    let (least, greatest) = RANGES[H];
+    let (least, greatest) = RANGES[H].ends();
     let lips = if sheet.is_z() { 0 } else { 2 * sheet.c };
     (least.max(lips), greatest.min(500 * sheet.t))
 }
 
 fn flange_room(sheet: &Sheet) -> (u64, u64) {
-    let (least, greatest) = RANGES[B1];
+    let (least, greatest) = RANGES[B1].ends();
     let midline = sheet.tnom + (5 * (2 * sheet.c - sheet.tnom)).div_ceil(6);
     let least = least.max((5 * sheet.c).div_ceil(3)).max(midline);
     let least = least.max(sheet.tnom + 10 * sheet.r);
@@ -40,7 +40,7 @@ fn flange_room(sheet: &Sheet) -> (u64, u64) {
 }
 
 fn lip_room(sheet: &Sheet) -> (u64, u64) {
-    let (least, greatest) = RANGES[C];
+    let (least, greatest) = RANGES[C].ends();
     let wide = sheet.b1.max(sheet.b2);
     let narrow = sheet.b1.min(sheet.b2);
     let midline = (sheet.tnom + 6 * (narrow - sheet.tnom) / 5) / 2;
@@ -81,21 +81,22 @@ pub(crate) fn any_in_range(chance: &mut Chance, (least, greatest): (u64, u64), e
 
 /// A section over the whole ranges with given thicknesses, or none.
 pub(crate) fn try_section(chance: &mut Chance, tnom: u64, t: u64, ends: u64) -> Option<Sheet> {
-    let (narrowest, widest) = RANGES[B1];
+    let (narrowest, widest) = RANGES[B1].ends();
     let b = any_in_range(chance, (narrowest, widest.min(60 * t)), ends);
     let mut sheet = Sheet::from_numbers([
-        chance.between(0, 1),
-        RANGES[H].1,
+        chance.one_in_range(RANGES[FORM]),
+        RANGES[H].ends().1,
         b,
         b,
-        RANGES[C].0,
+        RANGES[C].ends().0,
         0,
         tnom,
         t,
-        any_in_range(chance, RANGES[FYB], ends),
-        any_in_range(chance, RANGES[GM0], ends),
-        chance.between(0, RANGES[ROUNDS].1),
+        any_in_range(chance, RANGES[FYB].ends(), ends),
+        any_in_range(chance, RANGES[GM0].ends(), ends),
+        chance.one_in_range(RANGES[ROUNDS]),
         any_allowance(chance),
+        chance.one_in_range(RANGES[FINE]),
     ]);
     sheet = any_in_room(chance, &sheet, C, ends)?;
     sheet = match chance.between(0, 4) {
@@ -105,7 +106,7 @@ pub(crate) fn try_section(chance: &mut Chance, tnom: u64, t: u64, ends: u64) -> 
     };
     sheet = any_in_room(chance, &sheet, H, ends)?;
     let narrow = sheet.b1.min(sheet.b2) - tnom;
-    let largest_radius = RANGES[R].1.min(5 * t).min(narrow / 10);
+    let largest_radius = RANGES[R].ends().1.min(5 * t).min(narrow / 10);
     sheet.r = any_in_range(chance, (0, largest_radius), ends);
     meets_questions(&sheet).then_some(sheet)
 }
@@ -116,14 +117,14 @@ fn any_allowance(chance: &mut Chance) -> u64 {
         1 => 1,
         2 => 10,
         3 => 1000,
-        _ => chance.between(0, RANGES[ALLOW].1),
+        _ => chance.one_in_range(RANGES[ALLOW]),
     }
 }
 
 /// Nominal and core thickness, close together half of the time.
 fn any_thicknesses(chance: &mut Chance, ends: u64) -> (u64, u64) {
-    let (least, greatest) = RANGES[TNOM];
-    let t = any_in_range(chance, RANGES[T], ends);
+    let (least, greatest) = RANGES[TNOM].ends();
+    let t = any_in_range(chance, RANGES[T].ends(), ends);
     let tnom = any_in_range(chance, (t.max(least), greatest), ends);
     if chance.one_in(2) {
         ((t + chance.between(0, 8)).clamp(least, greatest), t)

@@ -5,24 +5,25 @@
 use crate::pair::{divide_down, divide_up, Pair, Scale};
 use crate::working::{worked, Working};
 
-/// Hands the lines of a sheet to a macro, in order: key, place, least and greatest
-/// value. Only here do the lines stand one by one.
+/// Hands the lines of a sheet to a macro, in order: key, place, and range, which is from
+/// one value to another, or one of two. Only here do the lines stand one by one.
 #[macro_export]
 macro_rules! with_sheet_lines {
     ($to:ident) => {
         $to! {
-            form   FORM   [0, 1]
-            h      H      [4000, 50000]
-            b1     B1     [2000, 20000]
-            b2     B2     [2000, 20000]
-            c      C      [500, 12000]
-            r      R      [0, 3000]
-            tnom   TNOM   [50, 600]
-            t      T      [45, 600]
-            fyb    FYB    [200, 700]
-            gm0    GM0    [1000, 1500]
-            rounds ROUNDS [0, 8]
-            allow  ALLOW  [0, 1000]
+            form   FORM   (0 or 1)
+            h      H      (4000 to 50000)
+            b1     B1     (2000 to 20000)
+            b2     B2     (2000 to 20000)
+            c      C      (500 to 12000)
+            r      R      (0 to 3000)
+            tnom   TNOM   (50 to 600)
+            t      T      (45 to 600)
+            fyb    FYB    (200 to 700)
+            gm0    GM0    (1000 to 1500)
+            rounds ROUNDS (0 to 8)
+            allow  ALLOW  (0 to 1000)
+            fine   FINE   (1 or 10)
         }
     };
 }
@@ -55,11 +56,63 @@ macro_rules! numbers_of_lines {
     };
 }
 
+/// The values that a line may have.
+#[derive(Clone, Copy, Debug, PartialEq, Eq)]
+pub enum Range {
+    /// From the least to the greatest.
+    Span(u64, u64),
+    /// One of two, the smaller first.
+    Either(u64, u64),
+}
+
+impl Range {
+    /// The least value and the greatest.
+    pub const fn ends(self) -> (u64, u64) {
+        match self {
+            Range::Span(least, greatest) | Range::Either(least, greatest) => (least, greatest),
+        }
+    }
+
+    pub fn holds(self, value: u64) -> bool {
+        match self {
+            Range::Span(least, greatest) => (least..=greatest).contains(&value),
+            Range::Either(one, other) => value == one || value == other,
+        }
+    }
+
+    /// The values next to an end, on either side, that it does not hold.
+    pub fn just_outside(self) -> Vec<u64> {
+        let (least, greatest) = self.ends();
+        let mut beside = vec![least + 1, greatest - 1, greatest + 1];
+        beside.extend(least.checked_sub(1));
+        beside.retain(|&value| !self.holds(value));
+        beside
+    }
+
+    /// Its ends, and those values.
+    pub fn ends_and_beside(self) -> Vec<u64> {
+        let (least, greatest) = self.ends();
+        let mut found = vec![least, greatest];
+        found.extend(self.just_outside());
+        found
+    }
+}
+
+/// A range as `with_sheet_lines` has it.
+macro_rules! range {
+    (($least:literal to $greatest:literal)) => {
+        Range::Span($least, $greatest)
+    };
+    (($one:literal or $other:literal)) => {
+        Range::Either($one, $other)
+    };
+}
+
 macro_rules! define_sheet {
-    ($($key:ident $place:ident [$least:literal, $greatest:literal])*) => {
+    ($($key:ident $place:ident $range:tt)*) => {
         numbers_of_lines! {
             /// A sheet: lengths in 0.01 mm, fyb in N/mm², gm0 in thousandths, allow in
-            /// 0.01 mm²; form 0 for C, 1 for Z.
+            /// 0.01 mm²; form 0 for C, 1 for Z; fine times 1,000,000 is its scale.
             Sheet of u64: $($key)*
         }
 
@@ -70,12 +123,18 @@ macro_rules! define_sheet {
             $(pub const $place: usize = Place::$place as usize;)*
         }
 
-        /// Least and greatest value of each line.
-        pub const RANGES: [(u64, u64); Sheet::LINES] = [$(($least, $greatest)),*];
+        /// The range of each line.
+        pub const RANGES: [Range; Sheet::LINES] = [$(range!($range)),*];
     };
 }
 
 with_sheet_lines!(define_sheet);
+
+/// The values of fine.
+pub const FINENESSES: [u64; 2] = {
+    let (coarse, fine) = RANGES[place::FINE].ends();
+    [coarse, fine]
+};
 
 numbers_of_lines! {
     /// The printed figures.
@@ -98,7 +157,7 @@ impl Sheet {
 
     /// Its scale is so many times 1,000,000.
     pub fn fineness(&self) -> i128 {
-        1
+        self.fine as i128
     }
 
     /// The scale of its working.
@@ -167,15 +226,9 @@ pub fn ask_before_working(numbers: Numbers) -> Result<Sheet, Refusal> {
 /// Question 2: is every value in range?
 fn ask_ranges(numbers: &Numbers) -> Result<(), Refusal> {
     for (place, number) in numbers.iter().enumerate() {
-        ask(is_in_range(place, *number), 2, place)?;
+        ask(RANGES[place].holds(*number), 2, place)?;
     }
     Ok(())
-}
-
-/// Whether the line at a place may have the value.
-fn is_in_range(place: usize, value: u64) -> bool {
-    let (least, greatest) = RANGES[place];
-    (least..=greatest).contains(&value)
 }
 
 /// Question 3: t ≤ tnom?
@@ -265,7 +318,7 @@ pub struct Accepted {
     pub figures: Figures,
 }
 
-/// Questions 2 to 11 in order, worked at our scale.
+/// Questions 2 to 11 in order, worked at the sheet's scale.
 pub fn ask_numbers(numbers: Numbers) -> Result<Accepted, Refusal> {
     let sheet = ask_before_working(numbers)?;
     let working = worked(&sheet);

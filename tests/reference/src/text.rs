@@ -6,10 +6,10 @@ use crate::sheet::{
 };
 
 /// No sheet that is spelt right is longer: each number has at most ten digits.
-pub const LONGEST_SHEET: usize = 168;
+pub const LONGEST_SHEET: usize = 184;
 
 /// No certificate is longer: a shift may have a minus, too.
-pub const LONGEST_CERTIFICATE: usize = 273;
+pub const LONGEST_CERTIFICATE: usize = 289;
 
 /// A certificate's line that has the key; a sheet's lines are the first of them.
 pub fn line_of(key: &str) -> u64 {

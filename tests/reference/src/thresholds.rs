@@ -8,7 +8,7 @@ use crate::pair::Pair;
 use crate::random::{meets_questions, random_section, FLANGES};
 use crate::rules::{thousandths, FACTOR_JUMPS_AT, FACTOR_ONE_TO, LIP_HALF_TO, OUTSTAND, SUPPORTED};
 use crate::sheet::place::{C, H};
-use crate::sheet::{Figures, Sheet};
+use crate::sheet::{Figures, Sheet, FINENESSES};
 use crate::working::{worked, Round, Stiffener, Working};
 
 /// The farthest from a threshold that counts, in units.
@@ -22,8 +22,8 @@ pub struct Threshold {
     pub name: &'static str,
     /// In thousandths.
     value: i128,
-    /// The ends and distances that occur.
-    pub occur: AtDistances<bool>,
+    /// The ends and distances that occur, in the order of `FINENESSES`.
+    occur: [AtDistances<bool>; 2],
     compared: Compared,
 }
 
@@ -44,20 +44,31 @@ enum Compared {
 
 use Compared::{Area, First, Ratio, Refined, Web};
 
-const ALL: AtDistances<bool> = [[true; 5]; 2];
+const ALL: [AtDistances<bool>; 2] = [[[true; 5]; 2]; 2];
 
-/// q is a whole number over 20 bp beside 0.35, so at least 2.5 units from it, and
-/// its ends are those of 0.35 or lie 2 and 3 units from it.
-const OF_RATIO: AtDistances<bool> = [
-    [false, false, true, false, true],
-    [true, false, true, false, false],
+/// q is a whole number over 20 bp beside 0.35, so at least 2.5 units from it at the coarser
+/// scale, and its ends are those of 0.35 or lie 2 and 3 units from it. At the finer scale it
+/// is at least 25 units from it, or 0.35 itself.
+const OF_RATIO: [AtDistances<bool>; 2] = [
+    [
+        [false, false, true, false, true],
+        [true, false, true, false, false],
+    ],
+    [[false, false, true, false, false]; 2],
 ];
 
-/// The root rounded up of no whole number of units, rooted again, is 0.650002.
-const OF_FACTOR: AtDistances<bool> = [[true; 5], [true, true, true, true, false]];
+/// Rooted twice, no whole number of units gives 0.650002 rounded up at the coarser scale; at
+/// the finer none gives 0.6500002 rounded down or 0.6499998 rounded up.
+const OF_FACTOR: [AtDistances<bool>; 2] = [
+    [[true; 5], [true, true, true, true, false]],
+    [
+        [true, true, true, true, false],
+        [false, true, true, true, true],
+    ],
+];
 
 /// Question 11 asks about the upper end.
-const UPPER: AtDistances<bool> = [[false; 5], [true; 5]];
+const UPPER: [AtDistances<bool>; 2] = [[[false; 5], [true; 5]]; 2];
 
 #[rustfmt::skip] // a row to a line
 pub const THRESHOLDS: [Threshold; 11] = [
@@ -77,7 +88,7 @@ pub const THRESHOLDS: [Threshold; 11] = [
 const fn at(
     name: &'static str,
     value: i128,
-    occur: AtDistances<bool>,
+    occur: [AtDistances<bool>; 2],
     compared: Compared,
 ) -> Threshold {
     Threshold {
@@ -89,6 +100,12 @@ const fn at(
 }
 
 impl Threshold {
+    /// The ends and distances that occur at a fineness.
+    pub fn occur(&self, fine: u64) -> AtDistances<bool> {
+        let at = FINENESSES.iter().position(|&its| its == fine);
+        self.occur[at.expect("a fineness")]
+    }
+
     /// How far the ends of each pair that is compared lie from it.
     fn distances(&self, sheet: &Sheet, working: &Working) -> Vec<[i128; 2]> {
         let pairs = match self.compared {
@@ -107,14 +124,15 @@ impl Threshold {
         [pair.lo - value, pair.hi - value]
     }
 
-    /// Sheets that may lie near it.
-    fn candidates(&self, chance: &mut Chance) -> Option<Vec<Sheet>> {
+    /// Sheets of a fineness that may lie near it.
+    fn candidates(&self, fine: u64, chance: &mut Chance) -> Option<Vec<Sheet>> {
+        let sheet = mostly_accepted(fine, chance)?;
         match self.compared {
-            Web => moved(self, chance, false, |_| H),
-            First(_, place) => moved(self, chance, false, place),
-            Refined(_) => moved(self, chance, true, |_| H),
-            Ratio => ratio_near(chance),
-            Area => allowance_near(chance),
+            Web => moved(self, sheet, chance, false, |_| H),
+            First(_, place) => moved(self, sheet, chance, false, place),
+            Refined(_) => moved(self, sheet, chance, true, |_| H),
+            Ratio => ratio_near(sheet, chance),
+            Area => allowance_near(sheet, chance),
         }
     }
 }
@@ -124,9 +142,12 @@ fn of_stiffeners(rounds: &[Round], pick: fn(&Stiffener) -> Pair) -> Vec<Pair> {
     stiffeners.map(pick).collect()
 }
 
-/// A random section with an allowance that most workings meet.
-fn mostly_accepted(chance: &mut Chance) -> Option<Sheet> {
-    let mut sheet = random_section(chance)?;
+/// A random section of a fineness, with an allowance that most workings meet.
+fn mostly_accepted(fine: u64, chance: &mut Chance) -> Option<Sheet> {
+    let mut sheet = Sheet {
+        fine,
+        ..random_section(chance)?
+    };
     if !chance.one_in(8) {
         sheet.allow = 1000;
     }
@@ -137,11 +158,11 @@ fn mostly_accepted(chance: &mut Chance) -> Option<Sheet> {
 /// threshold. Without refining, the rounds do not matter and are left out.
 fn moved(
     threshold: &Threshold,
+    mut sheet: Sheet,
     chance: &mut Chance,
     refining: bool,
     place: fn(usize) -> usize,
 ) -> Option<Vec<Sheet>> {
-    let mut sheet = mostly_accepted(chance)?;
     let rounds = sheet.rounds;
     sheet.rounds = if refining { rounds.max(1) } else { 0 };
     let pair = chance.place(2 * sheet.rounds.max(1) as usize);
@@ -159,9 +180,8 @@ fn moved(
 }
 
 /// 20 (cp − 0.35 bp) is -1, 0 or 1 hundredth. The next q beside 0.35 is
-/// 1 ÷ (20 bp) away, which is 2.5 units at the widest flange.
-fn ratio_near(chance: &mut Chance) -> Option<Vec<Sheet>> {
-    let mut sheet = mostly_accepted(chance)?;
+/// 1 ÷ (20 bp) away, which is 0.0000025 at the widest flange.
+fn ratio_near(mut sheet: Sheet, chance: &mut Chance) -> Option<Vec<Sheet>> {
     let b = if chance.one_in(2) { sheet.b1 } else { sheet.b2 };
     let twenty_lips = 7 * b + 3 * sheet.tnom + chance.between(0, 2) - 1;
     sheet.c = twenty_lips / 20;
@@ -183,8 +203,7 @@ fn hundredth(working: &Working) -> i128 {
 }
 
 /// A section whose area ends near a whole hundredth, and the allowance to that.
-fn allowance_near(chance: &mut Chance) -> Option<Vec<Sheet>> {
-    let mut sheet = random_section(chance)?;
+fn allowance_near(mut sheet: Sheet, chance: &mut Chance) -> Option<Vec<Sheet>> {
     sheet.rounds = chance.one_of(&[0, 0, 0, sheet.rounds]);
     sheet.allow = 0;
     let working = worked(&sheet);
@@ -208,18 +227,30 @@ pub fn shown(distances: impl IntoIterator<Item = [i128; 2]>) -> AtDistances<bool
     shown
 }
 
-/// How many sheets lie near a threshold, and how many have an end at a distance.
-#[derive(Clone, Copy, Default)]
+/// How many sheets of a fineness lie near a threshold, and how many have an end at a
+/// distance.
+#[derive(Clone, Copy)]
 pub struct Near {
+    fine: u64,
     pub sheets: u64,
     pub at_distances: AtDistances<u64>,
 }
 
 impl Near {
-    pub fn of(threshold: &Threshold, workings: &[(Sheet, Working)]) -> Near {
-        let mut near = Near::default();
+    fn none(fine: u64) -> Near {
+        Near {
+            fine,
+            sheets: 0,
+            at_distances: AtDistances::default(),
+        }
+    }
+
+    pub fn of(threshold: &Threshold, fine: u64, workings: &[(Sheet, Working)]) -> Near {
+        let mut near = Near::none(fine);
         for (sheet, working) in workings {
-            near.count(threshold, sheet, working);
+            if sheet.fine == fine {
+                near.count(threshold, sheet, working);
+            }
         }
         near
     }
@@ -237,7 +268,8 @@ impl Near {
     /// The fewest sheets at an end and a distance that occur.
     pub fn fewest(&self, threshold: &Threshold) -> u64 {
         let counts = self.at_distances.iter().flatten();
-        let occurring = counts.zip(threshold.occur.iter().flatten());
+        let occur = threshold.occur(self.fine);
+        let occurring = counts.zip(occur.as_flattened());
         let occurring = occurring.filter(|(_, &occurs)| occurs).map(|(&n, _)| n);
         occurring.min().expect("some occur")
     }
@@ -245,16 +277,16 @@ impl Near {
 
 const TRIES: u64 = 5_000_000;
 
-/// Sheets near a threshold, so many for each end and distance, unless that takes
-/// too many tries.
-pub fn search(threshold: &Threshold, chance: &mut Chance, wanted: u64) -> Vec<Sheet> {
+/// Sheets of a fineness near a threshold, so many for each end and distance, unless that
+/// takes too many tries.
+pub fn search(threshold: &Threshold, fine: u64, chance: &mut Chance, wanted: u64) -> Vec<Sheet> {
     let mut found = Vec::new();
-    let mut near = Near::default();
+    let mut near = Near::none(fine);
     for _ in 0..TRIES {
         if near.fewest(threshold) >= wanted {
             break;
         }
-        for sheet in threshold.candidates(chance).unwrap_or_default() {
+        for sheet in threshold.candidates(fine, chance).unwrap_or_default() {
             let mut with_it = near;
             with_it.count(threshold, &sheet, &worked(&sheet));
             let counts = near.at_distances.iter().flatten();
@@ -268,8 +300,9 @@ pub fn search(threshold: &Threshold, chance: &mut Chance, wanted: u64) -> Vec<Sh
     found
 }
 
-/// So many sheets are kept for each end and distance.
-pub const KEPT: u64 = 12;
+/// So many sheets of each fineness are kept for each end and distance. At the finer scale
+/// they are ten times as rare.
+pub const KEPT: [(u64, u64); 2] = [(FINENESSES[0], 12), (FINENESSES[1], 2)];
 
 /// The sheets of thresholds.txt, which `sections --thresholds` writes.
 pub fn kept() -> Vec<Sheet> {

@@ -1,7 +1,8 @@
 //! Reports on catalogues (document 02, W-202).
 
 use reference::cases::{
-    accepted_sheets, catalogues, example_catalogue, in_turn, mixed, refused_sheets, text_of, with,
+    accepted_sheets, both_finenesses, catalogues, example_catalogue, in_turn, mixed,
+    refused_sheets, text_of, with,
 };
 use reference::catalogue::{
     printed_report, report, sheets_of, write_report, Report, LONGEST_REPORT, MOST_SHEETS,
@@ -68,6 +69,16 @@ fn refused_sheets_are_counted() {
     let text = "6\n2\n0\n0\n0\n0\n1\n1\n0\n0\n0\n2\n72000\n169200\n2 36000 84600\n6 36000 84600\n";
     let catalogue = sheets.map(text_of).concat();
     assert_eq!(printed_report(catalogue.as_bytes()), text);
+}
+
+/// The same section with fine=1 is refused by 11, and with fine=10 accepted (W-204).
+#[test]
+fn each_sheet_is_worked_at_its_own_scale() {
+    let lines = lines_of(&printed_report(both_finenesses().as_bytes()));
+    let counts: Vec<u64> = lines[..HEAD - 2].concat();
+    assert_eq!(counts, [4, 3, 0, 0, 0, 0, 0, 0, 0, 0, 0, 1]);
+    let places: Vec<u64> = lines[HEAD..].iter().map(|row| row[0]).collect();
+    assert_eq!(places, [2, 3, 4]);
 }
 
 #[test]

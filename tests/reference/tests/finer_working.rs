@@ -4,7 +4,7 @@ use reference::finer::{failures, inequalities, MULTIPLES};
 use reference::generate::{sections, worked_sections};
 use reference::kinds::{count, passes_allowance, KINDS};
 use reference::named::SHEET_B;
-use reference::sheet::{ask_numbers, Figures, Sheet};
+use reference::sheet::{ask_numbers, Figures, Sheet, FINENESSES};
 use reference::text::{check, read_certificate, write_from_numbers, LONGEST_CERTIFICATE};
 use reference::working::{worked, Working};
 
@@ -22,20 +22,20 @@ fn written(sheet: &Sheet) -> Option<(Sheet, Figures)> {
 
 #[test]
 fn demand_3_on_the_written_certificates() {
-    let mut accepted = 0;
+    let mut accepted = [0; FINENESSES.len()];
     for sheet in sections() {
         let Some((shown, figures)) = written(&sheet) else {
             assert!(!passes_allowance(&sheet, &worked(&sheet)));
             continue;
         };
         assert_eq!(shown, sheet);
-        accepted += 1;
+        accepted[usize::from(sheet.fine != FINENESSES[0])] += 1;
         for m in std::iter::once(1).chain(MULTIPLES) {
             let failed = failures(&shown, &figures, m);
             assert!(failed.is_empty(), "{failed:?} at m = {m} of {sheet:?}");
         }
     }
-    assert!(accepted >= 200, "only {accepted} sections accepted");
+    assert!(accepted.iter().all(|&n| n >= 100), "{accepted:?} accepted");
 }
 
 /// Every pair of the finer working lies inside that of ours.
@@ -80,6 +80,10 @@ fn every_kind_of_section_is_there() {
     let all = worked_sections();
     for (name, is_kind) in KINDS {
         assert!(count(&all, is_kind) >= 5, "{name}");
+        for fine in FINENESSES {
+            let of_fineness = count(&all, |s, w| s.fine == fine && is_kind(s, w));
+            assert!(of_fineness >= 2, "{name}, fine={fine}");
+        }
     }
     for rounds in 0..=8 {
         assert!(count(&all, |sheet, _| sheet.rounds == rounds) >= 20);

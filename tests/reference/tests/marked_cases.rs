@@ -1,4 +1,5 @@
-//! The thirteen marked cases of document 01, the tenth as W-201 amends it.
+//! The thirteen marked cases of document 01, the tenth as W-201 amends it, the sheets with
+//! fine=1 (W-204).
 
 use reference::cases::with;
 use reference::named::{LIP_LONG_ON_MID_LINES, SHEET_A, SHEET_B};
@@ -75,7 +76,7 @@ fn case_8_k_at_0_475() {
 }
 
 const TEXT_A: &str = "form=C\nh=7200\nb1=4200\nb2=4200\nc=1600\nr=300\ntnom=200\nt=200\n\
-                      fyb=235\ngm0=1000\nrounds=0\nallow=0\n";
+                      fyb=235\ngm0=1000\nrounds=0\nallow=0\nfine=1\n";
 const FIGURES_A: &str = "area=36000\naxial=84600\nchi1=1000\nchi2=1000\nshiftlo=0\nshifthi=0\n";
 
 #[test]

@@ -2,7 +2,7 @@
 
 use reference::cases::{with, with_figure};
 use reference::named::{LIP_LONG_ON_MID_LINES, SHEET_A, SHEET_B};
-use reference::sheet::place::ALLOW;
+use reference::sheet::place::FINE;
 use reference::sheet::{ask_numbers, Figures, Sheet, CERTIFICATE_LINES, RANGES};
 use reference::text::{
     check, line_of, printed, sheet_text, write_from_numbers, write_from_text, Answer,
@@ -50,18 +50,29 @@ fn checked(text: &str) -> (u64, u64) {
 
 #[test]
 fn question_2_names_the_first_line_out_of_range() {
-    for (i, (least, greatest)) in RANGES.iter().enumerate() {
-        let mut outside = vec![greatest + 1, u64::MAX];
-        if *least > 0 {
-            outside.push(least - 1);
-        }
+    for (i, range) in RANGES.into_iter().enumerate() {
+        let mut outside = range.just_outside();
+        outside.push(u64::MAX);
         for value in outside {
             let sheet = SHEET_B.with_number(i, value);
             assert_eq!(asked(sheet), (2, i as u64 + 1));
-            let allow = sheet.with_number(ALLOW, RANGES[ALLOW].1 + 1);
-            assert_eq!(asked(allow), (2, i as u64 + 1));
+            let fine = sheet.with_number(FINE, 2);
+            assert_eq!(asked(fine), (2, i as u64 + 1));
         }
     }
+}
+
+#[test]
+fn fine_is_1_or_10() {
+    let taken = [1, 10];
+    let others = [0, 2, 3, 4, 5, 6, 7, 8, 9, 11, 12, 100, 1_000_000, u64::MAX];
+    for fine in taken {
+        assert_eq!(asked(Sheet { fine, ..SHEET_B }), (0, 0), "{fine}");
+    }
+    for fine in others {
+        assert_eq!(asked(Sheet { fine, ..SHEET_B }), (2, 13), "{fine}");
+    }
+    assert_eq!(RANGES[FINE].just_outside(), [2, 9, 11, 0]);
 }
 
 #[test]
@@ -142,8 +153,10 @@ fn question_1_names_the_first_bad_line() {
         assert_eq!(refused(&before), here);
         assert_eq!(refused(&(before + line.trim_end())), here);
     }
+    assert_eq!((BEHIND_SHEET, BEHIND_CERTIFICATE), (14, 20));
     assert_eq!(refused(&format!("{b}\n")), (1, BEHIND_SHEET));
     assert_eq!(refused(&format!("{b}x")), (1, BEHIND_SHEET));
+    assert_eq!(refused(&format!("{b}fine=1\n")), (1, BEHIND_SHEET));
     assert_eq!(refused(&certificate_b()), (1, BEHIND_SHEET));
     for form in ["c", "CZ", "0", "1", ""] {
         let text = b.replace("form=C", &format!("form={form}"));
@@ -156,6 +169,8 @@ fn text_goes_on_with_the_second_question() {
     let b = text_b();
     assert_eq!(refused(&b.replace("h=20000", "h=9999999999")), (2, 2));
     assert_eq!(refused(&b.replace("h=20000", "h=0")), (2, 2));
+    assert_eq!(refused(&b.replace("fine=1", "fine=2")), (2, 13));
+    assert_eq!(refused(&b.replace("fine=1", "fine=9999999999")), (2, 13));
     assert_eq!(refused(&b.replace("allow=10", "allow=0")), (11, 12));
     assert_eq!(
         printed(b.replace("allow=10", "allow=0").as_bytes()),
@@ -217,8 +232,8 @@ fn question_1_on_certificates() {
 #[test]
 fn question_13_names_the_first_line_that_differs() {
     let certificate = certificate_b();
-    for key in Figures::KEYS {
-        let line = line_of(key);
+    for (key, line) in Figures::KEYS.into_iter().zip(14..) {
+        assert_eq!(line_of(key), line);
         let changed = certificate.replace(&format!("\n{key}="), &format!("\n{key}=9"));
         assert_eq!(checked(&changed), (13, line));
         let twice = changed.replace("shifthi=", "shifthi=-9");

@@ -1,11 +1,11 @@
 //! Which `allow` suffices: prints, for random sections that meet questions 2 to
 //! 10, the least allowance that the eleventh leaves, as README quotes it. Over
-//! the whole ranges, and for ordinary sections.
+//! the whole ranges, and for ordinary sections; worked at either scale.
 
 use reference::chance::{Chance, SEED};
 use reference::generate::needed_allowance;
 use reference::random::random_section;
-use reference::sheet::{ask_before_working, Sheet};
+use reference::sheet::{ask_before_working, Sheet, FINENESSES};
 
 const SECTIONS: usize = 100_000;
 
@@ -26,24 +26,25 @@ fn ordinary_section(chance: &mut Chance) -> Option<Sheet> {
         1000,
         chance.between(0, 3),
         0,
+        FINENESSES[0],
     ]);
     ask_before_working(sheet.numbers()).ok()
 }
 
-/// Least allowances of so many sections, from the smallest.
-fn needed(section: fn(&mut Chance) -> Option<Sheet>) -> Vec<u64> {
+/// Least allowances of so many sections, worked with the fineness, from the smallest.
+fn needed(section: fn(&mut Chance) -> Option<Sheet>, fine: u64) -> Vec<u64> {
     let mut chance = Chance::seeded(SEED);
     let mut needed: Vec<u64> = std::iter::repeat_with(|| section(&mut chance))
         .flatten()
         .take(SECTIONS)
-        .map(|sheet| needed_allowance(&sheet))
+        .map(|sheet| needed_allowance(&Sheet { fine, ..sheet }))
         .collect();
     needed.sort_unstable();
     needed
 }
 
-fn print(name: &str, needed: &[u64]) {
-    println!("{name}, {} sections", needed.len());
+fn print(name: &str, fine: u64, needed: &[u64]) {
+    println!("{name}, fine={fine}, {} sections", needed.len());
     for thousandths in [500, 900, 990, 999] {
         let place = needed.len() * thousandths / 1000;
         println!(
@@ -53,7 +54,7 @@ fn print(name: &str, needed: &[u64]) {
         );
     }
     println!("  largest: {}", needed[needed.len() - 1]);
-    for allow in [0, 2, 5, 10, 100, 1000] {
+    for allow in [0, 1, 2, 5, 10, 100, 1000] {
         let enough = needed.partition_point(|n| *n <= allow);
         let share = enough as f64 * 100.0 / needed.len() as f64;
         println!("  allow={allow} suffices for {share:.2} %");
@@ -61,6 +62,8 @@ fn print(name: &str, needed: &[u64]) {
 }
 
 fn main() {
-    print("whole ranges", &needed(random_section));
-    print("ordinary", &needed(ordinary_section));
+    for fine in FINENESSES {
+        print("whole ranges", fine, &needed(random_section, fine));
+        print("ordinary", fine, &needed(ordinary_section, fine));
+    }
 }

@@ -4,7 +4,7 @@
 //! certificate_cases [--write]
 
 use reference::cases::{
-    certificate_of, certificates, example_catalogue, sheets, text_of, z_section,
+    certificate_of, certificates, example_catalogue, fine_section, sheets, text_of, z_section,
 };
 use reference::catalogue::{printed_report, write_report, LONGEST_REPORT};
 use reference::kept::{hold_or_write, Made};
@@ -78,17 +78,20 @@ fn write_answers(sheet: &[u8]) -> String {
     text
 }
 
-/// Sheet B as the eleventh question refuses it.
-const NO_ALLOWANCE: Sheet = Sheet {
-    allow: 0,
+/// Sheet B with an allowance that the eleventh question refuses with fine=1, and not with
+/// fine=10.
+const COARSE: Sheet = Sheet {
+    allow: 1,
     ..SHEET_B
 };
+const FINE: Sheet = Sheet { fine: 10, ..COARSE };
 
 fn examples(made: &mut Made) {
     for (name, sheet) in [
         ("sheet_a", SHEET_A),
         ("sheet_b", SHEET_B),
         ("z_section", z_section()),
+        ("fine", fine_section()),
     ] {
         made.file(format!("examples/{name}.txt"), text_of(sheet));
     }
@@ -108,13 +111,14 @@ fn certificate_output() -> String {
     changed[last_digit] ^= 1;
     let write = |sheet: Sheet, room| write_from_numbers(sheet.numbers(), &mut vec![0; room]);
     let written = write(SHEET_B, LONGEST_CERTIFICATE);
-    let refused = write(NO_ALLOWANCE, LONGEST_CERTIFICATE);
+    let [coarse, fine] = [COARSE, FINE].map(|sheet| write(sheet, LONGEST_CERTIFICATE));
     [
-        in_words("Certificate from twelve numbers", written),
+        in_words("Certificate from thirteen numbers", written),
         certificate.clone(),
         in_words("Checked", check(certificate.as_bytes())),
         in_words("Checked with a digit changed", check(&changed)),
-        in_words("Certificate of the sheet with allow=0", refused),
+        in_words("Certificate of the sheet with allow=1", coarse),
+        in_words("Certificate of the same with fine=10", fine),
         in_words("Certificate in a buffer of 100 bytes", write(SHEET_B, 100)),
     ]
     .concat()
@@ -122,7 +126,7 @@ fn certificate_output() -> String {
 
 /// What they print of a report.
 fn report_output() -> String {
-    let catalogue = [NO_ALLOWANCE, SHEET_B].map(text_of).concat();
+    let catalogue = [COARSE, FINE].map(text_of).concat();
     let cut = &catalogue[..catalogue.len() - 1];
     let write = |text: &str| write_report(text.as_bytes(), &mut [0; LONGEST_REPORT]);
     [

@@ -9,8 +9,10 @@ use reference::generate::worked_sections;
 use reference::kept::{hold_or_write_by, Made};
 use reference::kinds::{count, KINDS};
 use reference::section_cases::line;
+use reference::sheet::{Sheet, FINENESSES};
 use reference::thresholds::{search, KEPT, THRESHOLDS};
 use reference::worked_example::worked_example;
+use reference::working::Working;
 use std::env;
 use std::process::ExitCode;
 
@@ -28,16 +30,18 @@ fn main() -> ExitCode {
     ExitCode::SUCCESS
 }
 
-/// The sheets near each threshold, one to a line, under its name.
+/// The sheets near each threshold, one to a line, under its name; the coarser ones first.
 fn thresholds(switches: &[String]) -> ExitCode {
     let mut chance = Chance::seeded(SEED);
     let mut text = "# Found and written by `sections --thresholds`.\n".to_string();
     let mut sheets = 0;
     for threshold in &THRESHOLDS {
         text += &format!("# {}\n", threshold.name);
-        let found = search(threshold, &mut chance, KEPT);
-        sheets += found.len();
-        text.extend(found.iter().map(|sheet| line(&sheet.numbers())));
+        for (fine, kept) in KEPT {
+            let found = search(threshold, fine, &mut chance, kept);
+            sheets += found.len();
+            text.extend(found.iter().map(|sheet| line(&sheet.numbers())));
+        }
     }
     let mut made = Made::default();
     made.file("tests/reference/thresholds.txt", text);
@@ -46,12 +50,17 @@ fn thresholds(switches: &[String]) -> ExitCode {
 
 fn print_kinds() {
     let all = worked_sections();
-    println!("{:4} sections", all.len());
+    let print = |name: &str, is_kind: &dyn Fn(&Sheet, &Working) -> bool| {
+        let counts = FINENESSES.map(|fine| count(&all, |s, w| s.fine == fine && is_kind(s, w)));
+        println!("{:4} {:4} {name}", counts[0], counts[1]);
+    };
+    print("sections, fine=1 and fine=10", &|_, _| true);
     for (name, is_kind) in KINDS {
-        println!("{:4} {name}", count(&all, is_kind));
+        print(name, &is_kind);
     }
     for rounds in 0..=8 {
-        let with_rounds = count(&all, |sheet, _| sheet.rounds == rounds);
-        println!("{with_rounds:4} rounds {rounds}");
+        print(&format!("rounds {rounds}"), &|sheet, _| {
+            sheet.rounds == rounds
+        });
     }
 }

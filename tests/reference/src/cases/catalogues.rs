@@ -34,11 +34,17 @@ pub fn refused_sheets() -> Vec<String> {
     (COUNTED.0..=COUNTED.1).map(refused_by).collect()
 }
 
-/// Sheets that are accepted.
+/// Sheets that are accepted, of each fineness.
 pub fn accepted_sheets() -> Vec<String> {
-    [SHEET_A, SHEET_B, z_section(), b_turned()]
-        .map(text_of)
-        .to_vec()
+    let sheets = [
+        SHEET_A,
+        SHEET_B,
+        with(SHEET_B, "fine=10"),
+        z_section(),
+        b_turned(),
+        fine_section(),
+    ];
+    sheets.map(text_of).to_vec()
 }
 
 /// So many sheets, the given ones in turn.
@@ -52,6 +58,13 @@ pub fn mixed(count: usize) -> String {
     in_turn(&sheets, count)
 }
 
+/// A section that is refused with fine=1 and accepted with fine=10, and sheet B with either.
+pub fn both_finenesses() -> String {
+    let coarse = with(fine_section(), "fine=1");
+    let sheets = [coarse, fine_section(), SHEET_B, with(SHEET_B, "fine=10")];
+    sheets.map(text_of).concat()
+}
+
 fn reported() -> Vec<Case> {
     let (a, b) = (text_of(SHEET_A), text_of(SHEET_B));
     let strongest = text_of(with(greatest(), "gm0=1000 rounds=0"));
@@ -60,6 +73,7 @@ fn reported() -> Vec<Case> {
         ("a_and_b", [&*a, &b].concat()),
         ("a_twice", a.repeat(2)),
         ("example", example_catalogue()),
+        ("both_finenesses", both_finenesses()),
         ("every_question", mixed(14)),
         ("one_refused", refused_sheets().remove(0)),
         ("all_refused", refused_sheets().concat()),
@@ -116,6 +130,8 @@ fn out_of_step() -> Vec<Case> {
     let (a, b) = (text_of(SHEET_A), text_of(SHEET_B));
     let without_r = a.replace("r=300\n", "");
     let r_twice = a.replace("r=300\n", "r=300\nr=300\n");
+    // As a sheet was before W-204.
+    let twelve_lines = without_line(&a, "fine");
     let rows = [
         ("15_one_newline", "\n".to_string(), 1),
         ("15_newlines_of_a_sheet", newlines(1), 1),
@@ -128,6 +144,8 @@ fn out_of_step() -> Vec<Case> {
         ("15_newline_behind", format!("{a}{b}\n"), 3),
         ("15_line_missing", format!("{a}{without_r}{b}"), 2),
         ("15_line_twice", format!("{a}{r_twice}{b}"), 2),
+        ("15_twelve_lines", format!("{a}{twelve_lines}{b}"), 2),
+        ("15_all_of_twelve_lines", twelve_lines.repeat(13), 1),
         (
             "15_certificate_between",
             format!("{a}{}{b}", certificate_of(SHEET_A)),

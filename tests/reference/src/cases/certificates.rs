@@ -13,19 +13,30 @@ fn passing_certificates() -> Vec<Case> {
         case("z_section", certificate_of(z_section()), Passes),
         case("z_turned", certificate_of(z_turned()), Passes),
         case("shift_below_zero", certificate_of(b_turned()), Passes),
+        case("fine_a", certificate_of(with(SHEET_A, "fine=10")), Passes),
+        case("fine_b", certificate_of(with(SHEET_B, "fine=10")), Passes),
+        case("fine_section", certificate_of(fine_section()), Passes),
     ]
 }
 
-/// Certificates as they were written while flange 2 had flange 1's ratio, before W-201: of equal
-/// flanges they pass, and sheet B's does not.
+/// Certificates as they were written while flange 2 had flange 1's ratio, before W-201, and no sheet
+/// had the line fine, before W-204: as they stand the first question refuses them. With fine=1 those
+/// of equal flanges pass, and sheet B's does not.
 fn older_certificates() -> Vec<Case> {
     let wide_c = [
-        0, 45879, 17000, 17000, 4469, 267, 428, 425, 529, 1060, 1, 1000,
+        0, 45879, 17000, 17000, 4469, 267, 428, 425, 529, 1060, 1, 1000, 1,
     ];
-    let deep_z = [1, 47762, 3666, 3666, 1147, 63, 473, 210, 278, 1033, 3, 1];
-    let b = SHEET_B.numbers();
-    let older = |name, sheet, figures, meant| case(name, certificate_lines(sheet, figures), meant);
-    vec![
+    let deep_z = [1, 47762, 3666, 3666, 1147, 63, 473, 210, 278, 1033, 3, 1, 1];
+    let older = |name: &str, sheet, figures, meant| {
+        let with_fine = certificate_lines(sheet, figures);
+        let as_it_stood = without_line(&with_fine, "fine");
+        let refused_name = format!("01_{}", name.trim_start_matches("13_"));
+        [
+            case(name, with_fine, meant),
+            case(refused_name, as_it_stood, refused(1, "fine")),
+        ]
+    };
+    [
         older(
             "older_equal_c",
             wide_c,
@@ -40,15 +51,26 @@ fn older_certificates() -> Vec<Case> {
         ),
         older(
             "13_older_b",
-            b,
+            SHEET_B.numbers(),
             [43839, 153437, 693, 749, 142, 143],
             refused(13, "area"),
         ),
     ]
+    .into_iter()
+    .flatten()
+    .collect()
 }
 
 /// Of sheet A's certificate.
-const MISSPELT: [Misspelling; 6] = [
+const MISSPELT: [Misspelling; 9] = [
+    ("01_fine_leading_zero", "fine=1", "fine=01", "fine"),
+    ("01_fine_twice", "fine=1\n", "fine=1\nfine=1\n", "area"),
+    (
+        "01_fine_before_allow",
+        "allow=0\nfine=1",
+        "fine=1\nallow=0",
+        "allow",
+    ),
     (
         "01_area_eleven_digits",
         "area=36000",
@@ -89,7 +111,7 @@ fn misspelt_certificates() -> Vec<Case> {
         with_carriage_returns(a),
     ];
     cases.extend(misspelt(a, &[("01_form_x", "form=C", "form=X", "form")]));
-    cases.extend(without_lines(a, &["allow"]));
+    cases.extend(without_lines(a, &["allow", "fine"]));
     cases.push(case(
         "01_sheet_as_certificate",
         text_of(SHEET_A),
@@ -111,23 +133,33 @@ fn wrong_certificates() -> Vec<Case> {
     let area_too = with_figure_moved(&no_allowance, "area", 1);
     let deeper = b.replace("h=20000", "h=20100");
     let large_area = a.replace("area=36000", "area=9999999999");
+    let fine = &certificate_of(fine_section());
+    let fine_2 = b.replace("fine=1\n", "fine=2\n");
+    let fine_as_coarse = fine.replace("fine=10\n", "fine=1\n");
+    let enough = certificate_of(with(fine_section(), "fine=1 allow=1000"));
+    let coarse_as_fine = enough.replace("fine=1\n", "fine=10\n");
     let minus = b
         .replace("shiftlo=", "shiftlo=-")
         .replace("shifthi=", "shifthi=-");
     let mut cases = vec![
         case("02_fyb_above", strong, refused(2, "fyb")),
+        case("02_fine_2", fine_2, refused(2, "fine")),
         case("07_long_lip", long_lip, refused(7, "b1")),
         case("11_no_allowance", no_allowance, refused(11, "allow")),
         case("11_before_13", area_too, refused(11, "allow")),
+        case("11_fine_as_coarse", fine_as_coarse, refused(11, "allow")),
+        case("13_coarse_as_fine", coarse_as_fine, refused(13, "area")),
         case("13_another_depth", deeper, refused(13, "area")),
         case("13_area_ten_digits", large_area, refused(13, "area")),
         case("13_shifts_with_minus", minus, refused(13, "shiftlo")),
     ];
-    for key in Figures::KEYS {
-        for (name, by) in [("less", -1), ("more", 1)] {
-            let name = format!("13_{key}_{name}");
-            let moved = with_figure_moved(b, key, by);
-            cases.push(case(name, moved, refused(13, key)));
+    for (whose, certificate) in [("", b), ("fine_", fine)] {
+        for key in Figures::KEYS {
+            for (name, by) in [("less", -1), ("more", 1)] {
+                let name = format!("13_{whose}{key}_{name}");
+                let moved = with_figure_moved(certificate, key, by);
+                cases.push(case(name, moved, refused(13, key)));
+            }
         }
     }
     cases

@@ -6,7 +6,7 @@ mod certificates;
 mod sheets;
 
 pub use catalogues::{
-    accepted_sheets, catalogues, example_catalogue, in_turn, mixed, refused_sheets,
+    accepted_sheets, both_finenesses, catalogues, example_catalogue, in_turn, mixed, refused_sheets,
 };
 pub use certificates::{certificates, with_figure, with_figure_moved};
 pub use sheets::sheets;
@@ -105,6 +105,15 @@ fn b_turned() -> Sheet {
     with(SHEET_B, "b1=6600 b2=7400")
 }
 
+/// A C 250 mm deep whose lip is just past 0.35 of flange 1, where pairs widen: with fine=1
+/// the eleventh question refuses it.
+pub fn fine_section() -> Sheet {
+    with(
+        SHEET_B,
+        "h=25000 b1=7000 b2=6500 c=2500 tnom=150 t=146 rounds=3 allow=2 fine=10",
+    )
+}
+
 /// The text with each of its lines, the newline left aside, changed in turn.
 pub fn each_line_changed(text: &str, change: impl Fn(&str) -> String) -> Vec<String> {
     let lines: Vec<&str> = text.lines().collect();
@@ -118,16 +127,18 @@ pub fn each_line_changed(text: &str, change: impl Fn(&str) -> String) -> Vec<Str
     texts
 }
 
+/// A text without the line with that key.
+fn without_line(text: &str, key: &str) -> String {
+    let has_key = |line: &str| line.split_once('=').is_some_and(|(its, _)| its == key);
+    let lines = text.split_inclusive('\n');
+    lines.filter(|line| !has_key(line)).collect()
+}
+
 /// A text without each of the lines with those keys.
 fn without_lines(text: &str, keys: &[&str]) -> Vec<Case> {
     let without = |key: &&str| {
-        let has_key = |line: &&str| line.split_once('=').is_some_and(|(its, _)| its == *key);
-        let left = text.split_inclusive('\n').filter(|line| !has_key(line));
-        case(
-            format!("01_without_{key}"),
-            left.collect::<String>(),
-            refused(1, key),
-        )
+        let name = format!("01_without_{key}");
+        case(name, without_line(text, key), refused(1, key))
     };
     keys.iter().map(without).collect()
 }

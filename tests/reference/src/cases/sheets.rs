@@ -26,7 +26,7 @@ fn least() -> Sheet {
 /// the eighth and ninth question leave less.
 pub(super) fn greatest() -> Sheet {
     let ends = "form=1 h=50000 b1=20000 b2=20000 tnom=600 t=600 fyb=700 gm0=1500 rounds=8";
-    with(with(SHEET_A, ends), "c=11940 r=1940 allow=1000")
+    with(with(SHEET_A, ends), "c=11940 r=1940 allow=1000 fine=10")
 }
 
 /// Radius 5t, at 1 mm.
@@ -55,6 +55,12 @@ fn accepted_and_marked() -> Vec<Case> {
         ("z_section", z_section(), "", Passes),
         ("shift_below_zero", b_turned(), "", Passes),
         ("eight_rounds", SHEET_B, "rounds=8", Passes),
+        ("fine_a", SHEET_A, "fine=10", Passes),
+        ("fine_b", SHEET_B, "fine=10", Passes),
+        ("fine_z_section", z_section(), "fine=10", Passes),
+        ("fine_shift_below_zero", b_turned(), "fine=10", Passes),
+        ("fine_eight_rounds", SHEET_B, "rounds=8 fine=10", Passes),
+        ("fine_section", fine_section(), "", Passes),
     ])
 }
 
@@ -96,6 +102,17 @@ fn ranges() -> Vec<Case> {
         ("02_gm0_above", b, "gm0=1501", refused(2, "gm0")),
         ("02_rounds_above", b, "rounds=9", refused(2, "rounds")),
         ("02_allow_above", b, "allow=1001", refused(2, "allow")),
+        ("02_fine_0", b, "fine=0", refused(2, "fine")),
+        ("02_fine_2", b, "fine=2", refused(2, "fine")),
+        ("02_fine_9", b, "fine=9", refused(2, "fine")),
+        ("02_fine_11", b, "fine=11", refused(2, "fine")),
+        ("02_fine_100", b, "fine=100", refused(2, "fine")),
+        (
+            "02_fine_ten_digits",
+            b,
+            "fine=9999999999",
+            refused(2, "fine"),
+        ),
         ("02_ten_digits", b, "h=9999999999", refused(2, "h")),
     ])
 }
@@ -122,19 +139,13 @@ fn slender() -> Vec<Case> {
     ])
 }
 
-/// Questions 7 to 11.
+/// Questions 7 to 10.
 fn proportions() -> Vec<Case> {
     let short = with(large_radius(), "b1=5000 b2=5000 c=1000 r=400");
     let long = with(LIP_LONG_ON_MID_LINES, "b1=2500 b2=2500 c=1500");
     let radius = with(SHEET_A, "b1=3200 b2=3200 c=1000 allow=100");
     let mid_lines = with(SHEET_A, "b1=2200 b2=2200 c=1300 r=0 allow=100");
     let web = with(SHEET_A, "h=5000 b1=6000 b2=6000 c=2500 allow=100");
-    let allow = needed_allowance(&SHEET_B);
-    let enough = Sheet { allow, ..SHEET_B };
-    let one_short = Sheet {
-        allow: allow - 1,
-        ..SHEET_B
-    };
     changed(&[
         ("07_flanges_5c", short, "", Passes),
         ("07_b1_past_5c", short, "b1=5001", refused(7, "b1")),
@@ -159,30 +170,73 @@ fn proportions() -> Vec<Case> {
         ("10_lips_meet", web, "", Passes),
         ("10_lips_overlap", web, "h=4999", refused(10, "c")),
         ("10_lips_of_a_z", web, "form=1 h=4999", Passes),
-        ("11_allowance_enough", enough, "", Passes),
-        (
-            "11_allowance_one_short",
-            one_short,
-            "",
-            refused(11, "allow"),
-        ),
     ])
+}
+
+/// Question 11, at either scale: the least allowance that suffices, and one less.
+fn allowances() -> Vec<Case> {
+    let coarse = with(fine_section(), "fine=1");
+    let mut cases = changed(&[
+        ("11_coarse_section", coarse, "", refused(11, "allow")),
+        ("11_b_allow_1", SHEET_B, "allow=1", refused(11, "allow")),
+        ("11_fine_b_allow_1", SHEET_B, "allow=1 fine=10", Passes),
+    ]);
+    for (name, sheet) in [
+        ("", SHEET_B),
+        ("fine_b_", with(SHEET_B, "fine=10")),
+        ("coarse_section_", coarse),
+        ("section_", fine_section()),
+    ] {
+        let allow = needed_allowance(&sheet);
+        let enough = Sheet { allow, ..sheet };
+        let one_short = Sheet {
+            allow: allow - 1,
+            ..sheet
+        };
+        cases.extend([
+            case(
+                format!("11_{name}allowance_enough"),
+                text_of(enough),
+                Passes,
+            ),
+            case(
+                format!("11_{name}allowance_one_short"),
+                text_of(one_short),
+                refused(11, "allow"),
+            ),
+        ]);
+    }
+    cases
 }
 
 /// Sheets that fail two questions: the first decides.
 fn order() -> Vec<Case> {
     let b = SHEET_B;
-    let ranges_and_spelling = text_of(with(b, "h=3999")).replace("allow=10\n", "");
+    let low = text_of(with(b, "h=3999"));
     let thin = with(least(), "h=22501");
     let mid_lines = with(SHEET_A, "b1=2199 b2=2199 c=1300 r=300");
     let meeting = with(SHEET_A, "h=4199 b1=3533 b2=3533 c=2100");
-    let mut cases = vec![case(
-        "01_before_02",
-        ranges_and_spelling,
-        refused(1, "allow"),
-    )];
+    let mut cases = vec![
+        case(
+            "01_before_02",
+            without_line(&low, "allow"),
+            refused(1, "allow"),
+        ),
+        case(
+            "01_fine_before_02",
+            low.replace("fine=1", "fine=01"),
+            refused(1, "fine"),
+        ),
+    ];
     cases.extend(changed(&[
         ("02_before_03", b, "fyb=701 t=201", refused(2, "fyb")),
+        ("02_fine_before_03", b, "fine=2 t=201", refused(2, "fine")),
+        (
+            "02_allow_before_fine",
+            b,
+            "allow=1001 fine=2",
+            refused(2, "allow"),
+        ),
         ("03_before_04", b, "t=201 b1=12061", refused(3, "t")),
         (
             "04_before_05",
@@ -206,7 +260,7 @@ fn order() -> Vec<Case> {
 }
 
 /// Of sheet A.
-const MISSPELT: [Misspelling; 17] = [
+const MISSPELT: [Misspelling; 22] = [
     ("01_form_x", "form=C", "form=X", "form"),
     ("01_form_small_letter", "form=C", "form=c", "form"),
     ("01_form_two_letters", "form=C", "form=CZ", "form"),
@@ -229,6 +283,21 @@ const MISSPELT: [Misspelling; 17] = [
     ("01_plus", "r=300", "r=+300", "r"),
     ("01_point", "fyb=235", "fyb=235.0", "fyb"),
     ("01_zero_byte", "gm0=1000", "gm0=1000\0", "gm0"),
+    ("01_fine_leading_zero", "fine=1", "fine=01", "fine"),
+    ("01_fine_minus", "fine=1", "fine=-1", "fine"),
+    ("01_fine_no_digit", "fine=1", "fine=", "fine"),
+    (
+        "01_fine_eleven_digits",
+        "fine=1",
+        "fine=10000000000",
+        "fine",
+    ),
+    (
+        "01_fine_before_allow",
+        "allow=0\nfine=1",
+        "fine=1\nallow=0",
+        "allow",
+    ),
 ];
 
 fn misspelt_sheets() -> Vec<Case> {
@@ -244,11 +313,18 @@ fn misspelt_sheets() -> Vec<Case> {
     ];
     cases.extend(misspelt(a, &MISSPELT));
     cases.extend(at_the_end(a, Sheet::LINES));
-    cases.push(case(
-        "01_certificate_as_sheet",
-        certificate_of(SHEET_A),
-        bad_line(BEHIND_SHEET),
-    ));
+    cases.extend([
+        case(
+            "01_fine_twice",
+            format!("{a}fine=1\n"),
+            bad_line(BEHIND_SHEET),
+        ),
+        case(
+            "01_certificate_as_sheet",
+            certificate_of(SHEET_A),
+            bad_line(BEHIND_SHEET),
+        ),
+    ]);
     cases.extend(without_lines(a, &Sheet::KEYS));
     cases
 }
@@ -261,6 +337,7 @@ pub fn sheets() -> Vec<Case> {
         ranges(),
         slender(),
         proportions(),
+        allowances(),
         order(),
     ]
     .into_iter()

@@ -4,7 +4,8 @@ use super::after_rounds;
 use crate::finer::{inequalities, Inequality, Relation};
 use crate::pair::Pair;
 use crate::sheet::{
-    ask_allowance, axial_resistance, Accepted, Figures, Refusal, Sheet, CERTIFICATE_LINES,
+    ask_allowance, ask_numbers, axial_resistance, Accepted, Figures, Refusal, Sheet,
+    CERTIFICATE_LINES,
 };
 use crate::steps::{decimal, fixed, Steps};
 use crate::text::{line_of, BEHIND_SHEET};
@@ -121,6 +122,20 @@ pub fn finer_working(steps: &mut Steps, accepted: &Accepted) {
         [(i + 1).to_string(), words, compared, holds.to_string()]
     });
     steps.table(["", "inequality", "here", "holds"], rows.collect());
+    with_finer_sheet(steps, sheet);
+}
+
+/// What the same sheet prints where its own line fine asks for that working.
+fn with_finer_sheet(steps: &mut Steps, sheet: &Sheet) {
+    let fine = FINER as u64;
+    let finer = Sheet { fine, ..*sheet };
+    let figures = ask_numbers(finer.numbers()).expect("a certificate").figures;
+    let lines = Figures::KEYS.into_iter().zip(figures.numbers());
+    let shown: Vec<String> = lines.map(|(key, n)| format!("`{key}={n}`")).collect();
+    steps.paragraph(format!(
+        "With fine={fine} this is the sheet's own working (section 3), and the figures are those of its ends: {}.",
+        shown.join(", "),
+    ));
 }
 
 /// An inequality in words, and its sign.

@@ -56,7 +56,7 @@ pub fn worked_example() -> String {
 const INTRODUCTION: [&str; 3] = [
     "Every pair of the working of sheet B, in the order of the sections above. A row is a step: its symbol, its formula, \
      the section that says it, and both ends in the unit named. The formula is worked as it is written, each operation \
-     rounded outward to six decimals (section 3). Its symbols stand for the pairs of steps before it, those of the flange, \
+     rounded outward to six decimals, as fine=1 asks (section 3). Its symbols stand for the pairs of steps before it, those of the flange, \
      the lip and the round that the titles name. A row without a symbol is a part of a formula that follows. fyb is taken \
      as a plain number, in N/mm², so that u², T and ud have no unit.",
     "With a calculator the same steps give figures between the two ends, or outside them by no more than the calculator's \

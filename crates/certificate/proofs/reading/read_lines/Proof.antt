@@ -1,6 +1,6 @@
 -- `certificate::reading::read_lines` meets its contract. The invariant: what `Begun` says of the lines read.
 use borrow.Author.Needs.{needs}
-use Prim.Native.Nat.{ℕ, _+_, _-_, _≤_, _<_}
+use Prim.Native.Nat.{ℕ, _-_, _≤_, _<_}
 use mathlib.Core.List.{List}
 use mathlib.Core.Path.{_≡_, sym, ap, _∙_, subst}
 use native.Mathlib.Omega.{arith}
@@ -117,9 +117,8 @@ returns-3 : tie.Need-returns-3 Inv-loop μ-loop
 returns-3 c =
     let h = c .before .before .before .loop in
     let start = c .before .before .before .before .before in
-    c .bad-line2 .ensures
-    ∙ ap (λ (k : ℕ). linesOf (badLine (k + 1))) (sym (row-count (start .args .count) (start .pre)))
-    ∙ ap linesOf (sym (lines-behind (h .inv .2) (done (c .before .before)) (omega (arith, c .before .if1 .left, h .inv .1))))
+    let behind = lines-behind (h .inv .2) (done (c .before .before)) (omega (arith, c .before .if1 .left, h .inv .1)) in
+    c .bad-line2 .ensures ∙ ap (λ (k : ℕ). linesOf (badLine k)) (omega (arith, row-count (start .args .count) (start .pre))) ∙ ap linesOf (sym behind)
 
 pub read-lines-spec : {M : Type 1} → statement M
 read-lines-spec =

@@ -5,12 +5,11 @@ use Rattle.section.specs.Parts.{Fine}
 use Rattle.section.specs.Figures.{figures}
 use Rattle.section.proofs.Laws.{area-of-form, fineness-fine}
 use Rattle.certificate.proofs.Steps.{within, beyond}
-use borrow.Author.Needs.{needs}
 use Rattle.certificate.proofs.verdicts.allowance.Statement.{statement}
 use Rattle.certificate.proofs.verdicts.allowance.Tie as tie
 
 fineness-of-requires : tie.Need-fineness-of-requires
-fineness-of-requires c κs = search needs
+fineness-of-requires c κs = c .pre .q2
 
 -- the fineness is one that the code works at
 fine : (c : tie.After-fineness-of) → Fine (c .fineness-of .result)

@@ -12,6 +12,7 @@ use Rattle.questions.specs.Asking.{askedFrom, firstOf}
 use Rattle.questions.proofs.Laws.{line-fails, line-passes, lines-pass}
 use Rattle.certificate.specs.declared.Refusal.the-variants.{Range}
 use Rattle.certificate.specs.declared.verdicts.Span.{Span}
+use Rattle.certificate.specs.declared.verdicts.Span.the-variants.{Upto}
 use Rattle.certificate.specs.Questions.{question2, foundOf, spanned}
 use Rattle.certificate.proofs.Steps.{found-by-spans}
 use Rattle.certificate.proofs.verdicts.range.Statement.{statement}
@@ -27,7 +28,7 @@ abbrev μ-loop : tie.MeasureT-loop
 
 -- a span that no index within the table reads
 abbrev none : Span
-none = record { least = 0; most = 0 }
+none = Upto 0 0
 
 values-of-requires : tie.Need-values-of-requires Inv-loop μ-loop
 values-of-requires c κs = search needs

@@ -22,7 +22,7 @@ use Rattle.report.proofs.printing.certify_prints.Tie as tie
 room : (c : tie.After-write-arg) → length (c .before .before .args .out .now) ≡ longest certificateFields
 room c = count ∙ sym longest-certificate
   where
-    count : length (c .before .before .args .out .now) ≡ 273
+    count : length (c .before .before .args .out .now) ≡ 289
     count = search needs
 
 write-requires : tie.Need-write-requires

@@ -4,7 +4,7 @@ use native.Mathlib.Omega.{arith}
 use native.Mathlib.Nat.{le-trans}
 use Rattle.pair.specs.Rounding.{ceilDiv}
 use Rattle.section.specs.Working.{ρ}
-use Rattle.section.proofs.ShareForms.{units-fit, upper-end, lower-end, dividend-fits, square-fits, down-fits, up-fits, full-end, share-end}
+use Rattle.section.proofs.ShareForms.{units-fit, upper-end, lower-end, dividend-fits, squared, full-end, share-end}
 use borrow.Author.Needs.{needs}
 use Rattle.section.proofs.factors.share.Statement.{statement}
 use Rattle.section.proofs.factors.share.Tie as tie
@@ -25,17 +25,14 @@ returns c =
     let all = c .if1 .taken in
     λ i. record { lo = full-end (upper-end (pre .0) (pre .1)) _/_ all i; hi = full-end (lower-end (pre .0) (pre .1)) ceilDiv (le-trans (pre .0 .order) all) i }
 
-sub-floor-of : tie.Need-sub-floor-of
-sub-floor-of c = let pre = c .before .pre in omega (arith, upper-end (pre .0) (pre .1) .twice, c .if1 .left)
+sub-by-square-down : tie.Need-sub-by-square-down
+sub-by-square-down c = let pre = c .before .pre in omega (arith, upper-end (pre .0) (pre .1) .twice, c .if1 .left)
 
-mul-floor-of : tie.Need-mul-floor-of
-mul-floor-of c = let pre = c .before .pre in record { fits = dividend-fits (upper-end (pre .0) (pre .1)) }
+mul-by-square-down : tie.Need-mul-by-square-down
+mul-by-square-down c = let pre = c .before .pre in record { fits = dividend-fits (upper-end (pre .0) (pre .1)) }
 
-mul-floor-of-2 : tie.Need-mul-floor-of-2
-mul-floor-of-2 c = let pre = c .before .pre in record { fits = square-fits (upper-end (pre .0) (pre .1)) }
-
-floor-of-requires : tie.Need-floor-of-requires
-floor-of-requires c κs = let pre = c .before .pre in down-fits (upper-end (pre .0) (pre .1)) (c .if1 .left)
+by-square-down-requires : tie.Need-by-square-down-requires
+by-square-down-requires c κs = let pre = c .before .pre in squared (upper-end (pre .0) (pre .1)) (c .if1 .left)
 
 smaller-requires : tie.Need-smaller-requires
 smaller-requires c κs = search needs
@@ -46,21 +43,18 @@ returns-2 c =
     let floor = c .before .before in
     let pre = floor .before .before .pre in
     λ i. record {
-      lo = share-end (upper-end (pre .0) (pre .1)) _/_ (floor .before .if1 .left) (floor .floor-of .ensures) (c .before .smaller .ensures) i;
+      lo = share-end (upper-end (pre .0) (pre .1)) _/_ (floor .before .if1 .left) (floor .by-square-down .ensures) (c .before .smaller .ensures) i;
       hi = full-end (lower-end (pre .0) (pre .1)) ceilDiv (c .if2 .taken) i;
     }
 
-sub-ceil-of : tie.Need-sub-ceil-of
-sub-ceil-of c = let pre = c .before .before .before .before .pre in omega (arith, lower-end (pre .0) (pre .1) .twice, c .if2 .left)
+sub-by-square-up : tie.Need-sub-by-square-up
+sub-by-square-up c = let pre = c .before .before .before .before .pre in omega (arith, lower-end (pre .0) (pre .1) .twice, c .if2 .left)
 
-mul-ceil-of : tie.Need-mul-ceil-of
-mul-ceil-of c = let pre = c .before .before .before .before .pre in record { fits = dividend-fits (lower-end (pre .0) (pre .1)) }
+mul-by-square-up : tie.Need-mul-by-square-up
+mul-by-square-up c = let pre = c .before .before .before .before .pre in record { fits = dividend-fits (lower-end (pre .0) (pre .1)) }
 
-mul-ceil-of-2 : tie.Need-mul-ceil-of-2
-mul-ceil-of-2 c = let pre = c .before .before .before .before .pre in record { fits = square-fits (lower-end (pre .0) (pre .1)) }
-
-ceil-of-requires : tie.Need-ceil-of-requires
-ceil-of-requires c κs = let pre = c .before .before .before .before .pre in up-fits (lower-end (pre .0) (pre .1)) (c .if2 .left)
+by-square-up-requires : tie.Need-by-square-up-requires
+by-square-up-requires c κs = let pre = c .before .before .before .before .pre in squared (lower-end (pre .0) (pre .1)) (c .if2 .left)
 
 smaller-requires-2 : tie.Need-smaller-requires-2
 smaller-requires-2 c κs = search needs
@@ -72,8 +66,8 @@ returns-3 c =
     let floor = past .before .before in
     let pre = floor .before .before .pre in
     λ i. record {
-      lo = share-end (upper-end (pre .0) (pre .1)) _/_ (floor .before .if1 .left) (floor .floor-of .ensures) (past .before .smaller .ensures) i;
-      hi = share-end (lower-end (pre .0) (pre .1)) ceilDiv (past .if2 .left) (c .before .ceil-of .ensures) (c .smaller2 .ensures) i;
+      lo = share-end (upper-end (pre .0) (pre .1)) _/_ (floor .before .if1 .left) (floor .by-square-down .ensures) (past .before .smaller .ensures) i;
+      hi = share-end (lower-end (pre .0) (pre .1)) ceilDiv (past .if2 .left) (c .before .by-square-up .ensures) (c .smaller2 .ensures) i;
     }
 
 pub share-spec : {M : Type 1} → statement M
@@ -84,15 +78,13 @@ share-spec =
     mul-limit
     mul-off
     returns
-    sub-floor-of
-    mul-floor-of
-    mul-floor-of-2
-    floor-of-requires
+    sub-by-square-down
+    mul-by-square-down
+    by-square-down-requires
     smaller-requires
     returns-2
-    sub-ceil-of
-    mul-ceil-of
-    mul-ceil-of-2
-    ceil-of-requires
+    sub-by-square-up
+    mul-by-square-up
+    by-square-up-requires
     smaller-requires-2
     returns-3)

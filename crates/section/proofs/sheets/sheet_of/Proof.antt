@@ -41,6 +41,9 @@ array-read-t37 c = search needs
 array-read-t40 : tie.Need-array-read-t40
 array-read-t40 c = search needs
 
+array-read-t43 : tie.Need-array-read-t43
+array-read-t43 c = search needs
+
 returns : tie.Need-returns
 unfolding sheetOf
 returns c = refl
@@ -61,4 +64,5 @@ sheet-of-spec =
     array-read-t34
     array-read-t37
     array-read-t40
+    array-read-t43
     returns)

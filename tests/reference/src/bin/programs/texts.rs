@@ -188,11 +188,12 @@ pub fn endless() -> [Text; 2] {
 }
 
 /// The files of examples/ that are texts.
-pub fn examples() -> [PathBuf; 5] {
+pub fn examples() -> [PathBuf; 6] {
     let names = [
         "sheet_a.txt",
         "sheet_b.txt",
         "z_section.txt",
+        "fine.txt",
         "catalogue.txt",
         "output.txt",
     ];
