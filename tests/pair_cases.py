@@ -1,12 +1,12 @@
 #!/usr/bin/env python3
-"""The cases of crates/pair_cases, and what they must print, from document 01 alone.
+"""The cases of crates/pair_cases, and what they must print, from the documents alone.
 
 Document 01, "Pairs and the scale": a value is a pair of whole numbers, a lower and an upper end, in
 units of 1/s. Each operation uses the ends that make the result smallest for the lower end and largest
 for the upper, then rounds the lower down and the upper up to a whole unit; below zero that is toward
 minus and toward plus infinity. An operation applies where its divisors are above zero and its result
 can be held in 64 bits; a root's scale is a multiple of 64 and its argument has at most 70 bits (76 for
-a cube root).
+a cube root). The smaller of two values is by the same rule; request W-205 takes it.
 
 Holds crates/pair_cases/stdin and crates/pair_cases/stdout against them, and exits with status 1 where they
 differ. With --write, writes them.
@@ -101,6 +101,10 @@ def over_ratio(p, a, b, s):
     return over(p, (a * s // b, a * s // b), s)
 
 
+def smaller(p, q):
+    return outward((min(a, b), 1) for a in p for b in q)
+
+
 def coarser(p, k):
     return outward((a, k) for a in p)
 
@@ -176,6 +180,7 @@ CONTAINED = {
     'over_ratio': lambda r, p, a, b, s: contains(r, between(p) * b, STEPS * a),
     'root': lambda r, p, s: assert_power(r, between(p) * s, 2),
     'cube_root': lambda r, p, s: assert_power(r, between(p) * s * s, 3),
+    'smaller': lambda r, p, q: contains(r, min(between(p), between(q)), STEPS),
     'between': lambda r, p, q: contains(r, between(p) - between(q), STEPS),
     'signed_plus': lambda r, p, q: contains(r, between(p) + between(q), STEPS),
     'signed_minus': lambda r, p, q: contains(r, between(p) - between(q), STEPS),
@@ -215,6 +220,7 @@ OPERATIONS = {
     'root': ('r', root_applies, root),
     'roots': ('R', lambda p, q, s: root_applies(p, s) and root_applies(q, s), lambda p, q, s: root(p, s) + root(q, s)),
     'cube_root': ('c', cube_root_applies, cube_root),
+    'smaller': ('i', anything, smaller),
     'of': ('F', anything, lambda p: p),
     'between': ('B', anything, minus),
     'integer_plus': ('A', lambda x, y: word(abs(x) + abs(y)), lambda x, y: (x + y,)),
@@ -604,6 +610,21 @@ def two_roots():
     case('roots', (2, 3), (3, 2), MILLION)
 
 
+def smaller_of_two():
+    """Ends in every order, equal ones too, at both ends of their range and at powers of two; then random pairs, and
+    pairs a few units apart."""
+    for ends in ((0, 1, MOST - 1, MOST), (2**32 - 1, 2**32, 2**63 - 1, 2**63)):
+        pairs = [(lo, hi) for lo in ends for hi in ends if lo <= hi]
+        for p in pairs:
+            for q in pairs:
+                case('smaller', p, q)
+    for _ in range(RANDOM_CASES):
+        case('smaller', some_pair(), some_pair())
+        lo, hi = narrow()
+        least = lo + draw.randint(-4, 4)
+        case('smaller', (lo, hi), (least, least + draw.randint(0, 4)))
+
+
 def all_cases():
     marked_cases()
     quotient_edges('floor_of')
@@ -624,6 +645,7 @@ def all_cases():
     random_ratios()
     random_signed()
     two_roots()
+    smaller_of_two()
 
 
 def both_ways():

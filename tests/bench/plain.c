@@ -161,12 +161,15 @@ AT_SCALE void factors(const Section *section, Stiffener s[2], u64 n) {
     for (int i = 0; i < 2; i++) s[i].chi = thickness_factor(section, &s[i], &s[1 - i], n);
 }
 
+// Each flange keeps the smaller of its new chi and the old one, end by end (request W-205).
 AT_SCALE void refine(const Section *section, Stiffener s[2], u64 n) {
+    Ends old[2] = {s[0].chi, s[1].chi};
     for (int i = 0; i < 2; i++) {
         const Flange *f = &section->flange[i];
-        widths(section, &s[i], f->bp, times(f->plane, s[i].chi, n), times(f->lip, s[i].chi, n), n);
+        widths(section, &s[i], f->bp, times(f->plane, old[i], n), times(f->lip, old[i], n), n);
     }
     factors(section, s, n);
+    for (int i = 0; i < 2; i++) s[i].chi = (Ends){smaller(s[i].chi.lo, old[i].lo), smaller(s[i].chi.hi, old[i].hi)};
 }
 
 // ---- area, resistance, shift

@@ -12,6 +12,7 @@ pub mod Checked
 pub mod Rooms
 pub mod Certified
 pub mod FinerWorkings
+pub mod MoreRounds
 pub mod Promises
 pub mod Marked
 pub mod Laws

@@ -5,7 +5,7 @@ use mathlib.Core.Bool.{true}
 use lib.IntN.{ℤ}
 use lib.ListN.{length}
 use Rattle.pair.specs.Rounding.{ceilDiv, rootUp}
-use Rattle.pair.specs.Pairs.{exact, ratio, plus, minus, times, over, root, cubeRoot}
+use Rattle.pair.specs.Pairs.{exact, ratio, plus, minus, times, over, root, cubeRoot, smaller}
 use Rattle.pair.specs.Integers.{_≤ℤ_, lebℤ, least, greatest, floorOver, ceilOver}
 use Rattle.pair.specs.SignedPairs.{signed, difference, signedPlus, signedMinus, leastProduct, greatestProduct, signedTimes, signedOver}
 use Rattle.pair.proofs.Numbers.{lebℤ-true}
@@ -36,7 +36,7 @@ between low high = (lebℤ-true _ _ low, lebℤ-true _ _ high)
 pub marked-cases : (length marked ≡ 13) × Each marked
 unfolding
     -- of pair
-    ceilDiv rootUp exact ratio plus minus times over root cubeRoot
+    ceilDiv rootUp exact ratio plus minus times over root cubeRoot smaller
     lebℤ least greatest floorOver ceilOver signed difference signedPlus signedMinus leastProduct greatestProduct signedTimes signedOver
     -- of section
     mid-line lip-line u² ρ-at ρ ρ-plane ρ-lip k-past k-at k half-kept flange-of stiffener-of g J T kf D ud

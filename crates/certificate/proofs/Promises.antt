@@ -3,3 +3,4 @@ pub use Rattle.certificate.proofs.Written.{numbers-written, numbers-ref
 pub use Rattle.certificate.proofs.Checked.{check-refused, passes-when-issued}
 pub use Rattle.certificate.proofs.Rooms.{numbers-length, sheet-length, room-for-numbers, room-for-text, cut-sheet, cut-certificate}
 pub use Rattle.certificate.proofs.FinerWorkings.{finer-workings-held}
+pub use Rattle.certificate.proofs.MoreRounds.{never-upward}

@@ -68,7 +68,8 @@ module _ (s : List ℕ) where
       let t = reads-values sheetFields s vs .0 e in
       record { text = subst (λ (us : List ℤ). TextOf sheetFields us s) (sym (values-back vs (spelt-count sheetFields vs (t .spelt)) (t .spelt))) t }
 
-  shown : (q : Sheet) (room : ℕ) → Question1 s q → outcome s room ≡ outcomeOf q room
+  -- what is done with a text is done with the numbers that it shows
+  pub shown : (q : Sheet) (room : ℕ) → Question1 s q → outcome s room ≡ outcomeOf q room
   shown q room h =
       right-sheet s room (sheetValues q) (reads-values sheetFields s (sheetValues q) .1 (h .text)) ∙ ap (λ (x : Sheet). outcomeOf x room) (sheet-alone q)
 

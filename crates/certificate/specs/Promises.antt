@@ -8,6 +8,7 @@ use Rattle.section.specs.declared.Sheet.{Sheet}
 use Rattle.questions.specs.Claims.{_≤?_}
 use Rattle.section.specs.Working.{worked}
 use Rattle.section.specs.Figures.{own-figures, WithinPrinted}
+use Rattle.section.specs.Refining.{PrintedNotRaised}
 use Rattle.section.specs.Sheets.{sheetLines, fineness}
 use Rattle.lines.specs.Fields.{Field}
 use Rattle.lines.specs.Texts.{linesText, TextOf, FirstBad}
@@ -112,3 +113,17 @@ pub record FinerWorkingsHeld : Type 0 where
   pub text-written : (s : List ℕ) (room : ℕ) (c : List ℕ) → outcome s room ≡ written c → HeldForItsSheet s room c
   pub numbers-written : (q : Sheet) (room : ℕ) (c : List ℕ) → outcomeOf q room ≡ written c
       → AllSo (lines-of-writing room q) × HoldsFinerWorkings q (own-lines q) c
+
+-- c is written for the sheet q, as a text that shows it or as numbers, in some room
+pub data WrittenFor (q : Sheet) (c : List ℕ) : Type 0 where
+  as-text : (s : List ℕ) (room : ℕ) → Question1 s q → outcome s room ≡ written c → WrittenFor q c
+  as-numbers : (room : ℕ) → outcomeOf q room ≡ written c → WrittenFor q c
+
+-- Refining never goes upward (W-205), of the certificates of a sheet with fewer rounds and with more: the lines of both are read back from their
+-- bytes, and chi1 and chi2 of the second show at most what those of the first show.
+pub record FactorsNotRaised (fewer more : List ℕ) : Type 0 where
+  pub fewer-shown : List ℤ
+  pub fewer-read : readLines certificateFields fewer ≡ values fewer-shown
+  pub more-shown : List ℤ
+  pub more-read : readLines certificateFields more ≡ values more-shown
+  pub factors : PrintedNotRaised (figuresShown more-shown) (figuresShown fewer-shown)

@@ -2,11 +2,11 @@
 -- A numeral bound is a box: a pair a to b at a scale s, inside which the pair at m times that scale lies.
 use mathlib.Core.Path.{_≡_, refl, ap}
 use mathlib.Core.Bool.{true}
-use Prim.Native.Nat.{ℕ, _+_, _-_, _*_, _%_, _^_, _≤_, _<_}
+use Prim.Native.Nat.{ℕ, _+_, _-_, _*_, _%_, _^_, _≤_, _<_, min}
 use native.Mathlib.Nat.{le-refl, le-trans, lt-of-le-of-lt, mul-assoc, mul-pos, mul-le-mul, mul-le-mul-left, mul-le-mul-right, dvd-of-mod-eq-zero, mod-eq-zero-of-dvd, dvd-mul-left-of-dvd}
 use native.Mathlib.Omega.{arith}
 use borrow.Author.Tests.{le-leb, lt-ltb, eq-eqb}
-use Rattle.pair.specs.Pairs.{_to_, exact, ratio, plus, minus, times, over, root, cubeRoot}
+use Rattle.pair.specs.Pairs.{_to_, exact, ratio, plus, minus, times, over, root, cubeRoot, smaller}
 use Rattle.pair.specs.Fits.{word, words, ordered, ratioFits, plusFits, minusFits, timesFits, overFits, exactRatio, timesRatioFits, overRatioFits, rootFits, cubeRootFits}
 use Rattle.pair.specs.Enclosure.{Finer, Inside, Ordered, Positive, AtLeast, AtMost}
 use Rattle.pair.specs.declared.Pair.{Pair}
@@ -15,7 +15,7 @@ use Rattle.pair.proofs.Quotients.{ceil-le, le-floor}
 use Rattle.pair.proofs.Fitting.{ratio-out, over-ratio-out}
 use Rattle.pair.proofs.Powers.{pow-two, pow-three, le-down, up-le}
 use Rattle.pair.proofs.Ratios.{ratio-exact, over-by-ratio, over-twice}
-use Rattle.pair.proofs.PairLaws.{ratio-positive, ratio-ordered, exact-inside, minus-inside, times-inside, over-inside, root-inside, cube-root-inside}
+use Rattle.pair.proofs.PairLaws.{ratio-positive, ratio-ordered, exact-inside, minus-inside, times-inside, over-inside, root-inside, cube-root-inside, smaller-inside}
 
 -- bounds of each end, in units of 1/s
 
@@ -126,6 +126,10 @@ root-box {s = s} e f h i l k = box-wider e f (root-inside h i) (root-at-least s 
 
 pub cube-root-box : {m s s′ a b : ℕ} {P : Pair} (e f : ℕ) → Finer m s s′ → Inside m P (a to b) → e * e * e ≤ a * (s * s) → b * (s * s) ≤ f * f * f → Inside m (cubeRoot s′ P) (e to f)
 cube-root-box {s = s} e f h i l k = box-wider e f (cube-root-inside h i) (cube-root-at-least s e (own-least _) l) (cube-root-at-most s f (own-most _) k)
+
+pub smaller-box : {m a b c d : ℕ} {P Q : Pair} → Inside m P (a to b) → Inside m Q (c to d) → Inside m (smaller P Q) (min a c to min b d)
+unfolding smaller
+smaller-box i j = smaller-inside i j
 
 -- what each operation asks, from a box of its result
 

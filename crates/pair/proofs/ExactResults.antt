@@ -1,12 +1,12 @@
 -- The enclosure promises for pairs, continued: an exact result of values between the operands' ends lies between the result's ends.
 -- Values are fractions over any multiple m × s of the scale s; the exact result is a fraction over a further multiple of s.
-use Prim.Native.Nat.{ℕ, _+_, _-_, _*_, _/_, _<_}
+use Prim.Native.Nat.{ℕ, _+_, _-_, _*_, _/_, _<_, min}
 use native.Mathlib.Nat.{le-refl, le-trans, mul-le-mul, mul-le-mul-left, mul-le-mul-right, div-mul-le-self}
 use native.Mathlib.Omega.{arith}
-use Rattle.pair.specs.Pairs.{exact, plus, minus, times, over, root, cubeRoot}
+use Rattle.pair.specs.Pairs.{exact, plus, minus, times, over, root, cubeRoot, smaller}
 use Rattle.pair.specs.Enclosure.{Between, RootBetween, Positive}
 use Rattle.pair.specs.declared.Pair.{Pair}
-use Rattle.pair.proofs.Quotients.{le-ceil, sub-mul}
+use Rattle.pair.proofs.Quotients.{le-ceil, sub-mul, min-down, min-up}
 use Rattle.pair.proofs.Powers.{down-is-root, le-up}
 
 pub exact-between : (m v : ℕ) → Between m (v * m) (exact v)
@@ -54,4 +54,11 @@ unfolding cubeRoot
 cube-root-between {m} {x} {p} s i = record {
   low = omega (arith, mul-le-mul-right m (down-is-root 2 (p .lo * (s * s)) .low), mul-le-mul-right (s * s) (i .low));
   high = omega (arith, mul-le-mul-right m (le-up 2 (p .hi * (s * s))), mul-le-mul-right (s * s) (i .high));
+}
+
+pub smaller-between : {m x y : ℕ} {p q : Pair} → Between m x p → Between m y q → Between m (min x y) (smaller p q)
+unfolding smaller
+smaller-between {m} {x} {y} {p} {q} i j = record {
+  low = min-down (p .lo) (q .lo) x y m (i .low) (j .low);
+  high = min-up (p .hi) (q .hi) x y m (i .high) (j .high);
 }

@@ -1,16 +1,16 @@
 -- The enclosure promises for pairs, at any scale and for any whole m from 1:
 -- a finer pair inside a coarser one gives a finer result inside the coarser result, and ends stay in order.
-use mathlib.Core.Path.{_≡_, refl, sym, ap, subst}
+use mathlib.Core.Path.{_≡_, refl, sym, ap, subst, _∙_}
 use mathlib.Core.Bool.{true}
-use Prim.Native.Nat.{ℕ, _+_, _*_, _/_, _<_}
+use Prim.Native.Nat.{ℕ, _+_, _*_, _/_, _<_, min}
 use native.Mathlib.Nat.{le-refl, le-trans, mul-le-mul, mul-le-mul-left, mul-le-mul-right, mul-comm, mul-pos}
 use native.Mathlib.Omega.{arith}
 use Rattle.pair.specs.Rounding.{ceilDiv}
-use Rattle.pair.specs.Pairs.{_to_, exact, ratio, plus, minus, times, over, root, cubeRoot}
+use Rattle.pair.specs.Pairs.{_to_, exact, ratio, plus, minus, times, over, root, cubeRoot, smaller}
 use Rattle.pair.specs.Fits.{exactRatio}
-use Rattle.pair.specs.Enclosure.{Finer, Inside, Ordered, Positive}
+use Rattle.pair.specs.Enclosure.{Finer, Inside, Ordered, NotAbove, Positive}
 use Rattle.pair.specs.declared.Pair.{Pair}
-use Rattle.pair.proofs.Quotients.{cross-down, cross-up, cross-mid, sub-mul, pos-left}
+use Rattle.pair.proofs.Quotients.{cross-down, cross-up, cross-mid, sub-mul, pos-left, min-down, min-up}
 use Rattle.pair.proofs.Powers.{pow-two, pow-three, cross-root-down, cross-root-up, cross-root-mid}
 use Rattle.pair.proofs.Fitting.{ratio-out}
 use Rattle.pair.proofs.Ratios.{ratio-exact, units}
@@ -129,6 +129,14 @@ cube-root-inside {m} {s} {s′} {P} {p} h i =
           (rw (pow-three m) (omega (arith, mul-le-mul-right (m * s * (m * s)) (i .high), ap (λ (x : ℕ). P .hi * (x * x)) scale)));
     }
 
+pub smaller-inside : {m : ℕ} {P p Q q : Pair} → Inside m P p → Inside m Q q → Inside m (smaller P Q) (smaller p q)
+unfolding smaller
+smaller-inside {m} {P} {p} {Q} {q} i j = record {
+  low = min-down (p .lo) (q .lo) (P .lo) (Q .lo) m (i .low) (j .low);
+  mid = omega (arith, i .mid, j .mid);
+  high = min-up (p .hi) (q .hi) (P .hi) (Q .hi) m (i .high) (j .high);
+}
+
 -- an exact value a ÷ b is the same at every finer scale
 pub ratio-inside : {m s s′ : ℕ} (a b : ℕ) → Finer m s s′ → exactRatio s a b ≡ true → Inside m (ratio s′ a b) (ratio s a b)
 unfolding ratio
@@ -171,3 +179,34 @@ root-ordered h o = inside-ordered (root-inside (same-scale h) (ordered-inside o)
 
 pub cube-root-ordered : {s : ℕ} {p : Pair} → 0 < s → Ordered p → Ordered (cubeRoot s p)
 cube-root-ordered h o = inside-ordered (cube-root-inside (same-scale h) (ordered-inside o))
+
+pub smaller-ordered : {p q : Pair} → Ordered p → Ordered q → Ordered (smaller p q)
+smaller-ordered o k = inside-ordered (smaller-inside (ordered-inside o) (ordered-inside k))
+
+-- no end of the smaller of two values is above that of either, and it is the one that is not above the other
+pub smaller-not-above : (p q : Pair) → NotAbove (smaller p q) p × NotAbove (smaller p q) q
+unfolding smaller
+smaller-not-above p q = (record { low = omega arith; high = omega arith }, record { low = omega arith; high = omega arith })
+
+pub smaller-first : {p q : Pair} → NotAbove p q → smaller p q ≡ p
+unfolding smaller
+smaller-first {p} {q} h =
+    let low : min (p .lo) (q .lo) ≡ p .lo = omega (arith, h .low) in
+    let high : min (p .hi) (q .hi) ≡ p .hi = omega (arith, h .high) in
+    λ i. low i to high i
+
+pub smaller-comm : (p q : Pair) → smaller p q ≡ smaller q p
+unfolding smaller
+smaller-comm p q =
+    let low : min (p .lo) (q .lo) ≡ min (q .lo) (p .lo) = omega arith in
+    let high : min (p .hi) (q .hi) ≡ min (q .hi) (p .hi) = omega arith in
+    λ i. low i to high i
+
+pub smaller-second : {p q : Pair} → NotAbove q p → smaller p q ≡ q
+smaller-second {p} {q} h = smaller-comm p q ∙ smaller-first h
+
+pub not-above-refl : (p : Pair) → NotAbove p p
+not-above-refl p = record { low = le-refl _; high = le-refl _ }
+
+pub not-above-trans : {p q r : Pair} → NotAbove p q → NotAbove q r → NotAbove p r
+not-above-trans h k = record { low = le-trans (h .low) (k .low); high = le-trans (h .high) (k .high) }

@@ -1,7 +1,8 @@
 -- Quotients rounded down and up: each is the largest or the least number with a property, and how two of them compare.
 use mathlib.Core.Path.{_≡_, ap₂, _∙_}
-use Prim.Native.Nat.{ℕ, zero, suc, _+_, _-_, _*_, _/_, _≤_, _<_}
-use native.Mathlib.Nat.{le-refl, le-antisymm, le-of-suc-le-suc, suc-mul, mul-comm, mul-sub, mul-pos, mul-le-mul-right, le-of-mul-le-mul-right, div-mul-le-self, le-div-iff-mul-le, div-lt-iff-lt-mul, lt-div-mul-add}
+use Prim.Native.Nat.{ℕ, zero, suc, _+_, _-_, _*_, _/_, _≤_, _<_, min}
+use native.Mathlib.Nat.{le-refl, le-antisymm, le-of-suc-le-suc, suc-mul, mul-comm, mul-sub, mul-pos, mul-le-mul-right, le-of-mul-le-mul-right, div-mul-le-self, le-div-iff-mul-le, div-lt-iff-lt-mul, lt-div-mul-add, min-le-left, min-le-right}
+use native.Mathlib.Decide.{decLe}
 use native.Mathlib.Omega.{arith}
 use Rattle.pair.specs.Rounding.{ceilDiv}
 
@@ -62,3 +63,14 @@ ceil-twice n a b p q =
     le-antisymm
     (ceil-le q (ceil-le p (omega (arith, le-ceil {n = n} ab))))
     (ceil-le ab (omega (arith, le-ceil {n = n} p, mul-le-mul-right a (le-ceil {n = ceilDiv n a} q))))
+
+-- the smaller of two numbers, and of two that are m times as fine
+pub min-down : (x y X Y m : ℕ) → x * m ≤ X → y * m ≤ Y → min x y * m ≤ min X Y
+min-down x y X Y m h k = omega (arith, h, k, mul-le-mul-right m (min-le-left x y), mul-le-mul-right m (min-le-right x y))
+
+pub min-up : (x y X Y m : ℕ) → X ≤ x * m → Y ≤ y * m → min X Y ≤ min x y * m
+min-up x y X Y m h k = by-outcome (decLe x y)
+  where
+    by-outcome : Dec (x ≤ y) → min X Y ≤ min x y * m
+    by-outcome (yes p) = let e : min x y ≡ x = omega arith in rw e (omega (arith, h))
+    by-outcome (no f) = let e : min x y ≡ y = omega arith in rw e (omega (arith, k))

@@ -43,6 +43,11 @@ pub record Ordered (p : Pair) : Type 0 where
 pub record SignedOrdered (a : SignedPair) : Type 0 where
   pub ends : a .lo ≤ℤ a .hi
 
+-- no end of p is above that of q, in units of one scale
+pub record NotAbove (p q : Pair) : Type 0 where
+  pub low : p .lo ≤ q .lo
+  pub high : p .hi ≤ q .hi
+
 -- a divisor's lower end is above zero
 pub record Positive (p : Pair) : Type 0 where
   pub low : 0 < p .lo

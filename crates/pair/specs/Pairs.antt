@@ -1,7 +1,7 @@
 -- A value is a pair of whole numbers, a lower and an upper end, in units of 1/s, s being the scale. (docs/WORKING.md, 3.)
 -- Each operation uses the ends that make the result smallest for the lower end and largest for the upper,
 -- then rounds the lower down and the upper up to a whole unit.
-use Prim.Native.Nat.{ℕ, _+_, _-_, _*_, _/_}
+use Prim.Native.Nat.{ℕ, _+_, _-_, _*_, _/_, min}
 use Rattle.pair.specs.Rounding.{ceilDiv, rootDown, rootUp}
 use Rattle.pair.specs.declared.Pair.{Pair}
 
@@ -35,3 +35,7 @@ root s p = rootDown 2 (p .lo * s) to rootUp 2 (p .hi * s)
 
 unfoldable pub cubeRoot : ℕ → Pair → Pair
 cubeRoot s p = rootDown 3 (p .lo * (s * s)) to rootUp 3 (p .hi * (s * s))
+
+-- the smaller of two values, end by end
+unfoldable pub smaller : Pair → Pair → Pair
+smaller p q = min (p .lo) (q .lo) to min (p .hi) (q .hi)

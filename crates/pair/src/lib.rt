@@ -7,7 +7,7 @@ pub mod wide;
 
 ghost use mathlib.Core.Path.{_≡_};
 ghost use mathlib.Core.Bool.{true};
-ghost use Rattle.pair.specs.Pairs.{exact, ratio, plus, minus, times, over, root, cubeRoot};
+ghost use Rattle.pair.specs.Pairs.{exact, ratio, plus, minus, times, over, root, cubeRoot, smaller};
 ghost use Rattle.pair.specs.Fits.{ratioFits, plusFits, minusFits, timesFits, overFits, timesRatioFits, overRatioFits, rootFits, cubeRootFits};
 
 #[repr(C)]
@@ -147,6 +147,16 @@ impl Pair {
         Pair {
             lo: below.root,
             hi: roots::cube_above(below, self.lo, self.hi, s),
+        }
+    }
+
+    // The smaller of two values, end by end.
+    pub fn smaller(self, q: Pair) -> Self
+        ensures { λ r. ⌜ r ≡ smaller self q ⌝ }
+    {
+        Pair {
+            lo: wide::lesser(self.lo, q.lo),
+            hi: wide::lesser(self.hi, q.hi),
         }
     }
 }

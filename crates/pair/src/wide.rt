@@ -1,7 +1,7 @@
 // Quotients of a product of two u64, which has 128 bits, where no type is that wide.
 ghost use mathlib.Core.Path.{_≡_};
 ghost use mathlib.Core.Bool.{cond};
-ghost use Prim.Native.Nat.{_+_, _*_, _/_, _^_, _<_};
+ghost use Prim.Native.Nat.{_+_, _*_, _/_, _^_, _<_, min};
 ghost use Rattle.pair.specs.Rounding.{ceilDiv};
 ghost use Rattle.pair.specs.Remainders.{Split};
 
@@ -16,6 +16,12 @@ pub fn pick(c: bool, a: u64, b: u64) -> u64
     ensures { λ r. ⌜ r ≡ cond c a b ⌝ }
 {
     if c { a } else { b }
+}
+
+pub fn lesser(a: u64, b: u64) -> u64
+    ensures { λ r. ⌜ r ≡ min a b ⌝ }
+{
+    if a <= b { a } else { b }
 }
 
 // The upper 64 bits of a * b, from products of halves of 32 bits added column by column.

@@ -11,7 +11,7 @@ ghost use mathlib.Core.Bool.{true};
 ghost use Prim.Native.Nat.{_*_, _/_, _^_, _<_};
 ghost use Rattle.pair.specs.Rounding.{ceilDiv};
 ghost use Rattle.pair.specs.Remainders.{Split, SquareRooted, CubeRooted};
-ghost use Rattle.pair.specs.Pairs.{_to_, exact, ratio, plus, minus, times, over, root, cubeRoot};
+ghost use Rattle.pair.specs.Pairs.{_to_, exact, ratio, plus, minus, times, over, root, cubeRoot, smaller};
 ghost use Rattle.pair.specs.Fits.{ratioFits, plusFits, minusFits, timesFits, overFits, timesRatioFits, overRatioFits, rootFits, cubeRootFits};
 
 // A quotient or a root with what is left over.
@@ -192,4 +192,16 @@ pub extern "C" fn pair_cube_root(lo: u64, hi: u64, s: u64) -> Pair
 {
     let p = Pair { lo, hi };
     p.cube_root(s)
+}
+
+#[no_mangle]
+pub extern "C" fn pair_smaller(lo: u64, hi: u64, least: u64, most: u64) -> Pair
+    ensures { λ r. ⌜ r ≡ smaller (lo to hi) (least to most) ⌝ }
+{
+    let p = Pair { lo, hi };
+    let q = Pair {
+        lo: least,
+        hi: most,
+    };
+    p.smaller(q)
 }

@@ -96,6 +96,7 @@ pub fn run(letter: u8, o: Operands) {
         b'r' => print::line(b"root", root(p, c)),
         b'R' => print::line(b"roots", roots(p, q, s)),
         b'c' => print::line(b"cube_root", cube_root(p, c)),
+        b'i' => print::line(b"smaller", Outcome::Ends(p.smaller(q))),
         _ => {}
     }
 }

@@ -4,12 +4,12 @@ use mathlib.Core.Path.{_≡_, refl}
 use mathlib.Core.Bool.{true}
 use native.Mathlib.Nat.{mul-comm, mul-pos, mul-le-mul, mul-le-mul-left, mul-le-mul-right, min-le-left, min-le-right, le-max-left, le-max-right}
 use native.Mathlib.Nat.{mul-div-assoc, div-mul-cancel, dvd-of-mod-eq-zero, mod-eq-zero-of-dvd, dvd-mul-left-of-dvd}
-use native.Mathlib.Decide.{decLe}
 use native.Mathlib.Omega.{arith}
 use lib.Dec.{lit<, lit≤}
 use Rattle.pair.specs.Fits.{exactRatio}
 use Rattle.pair.specs.Enclosure.{Finer, Inside}
 use Rattle.pair.proofs.Laws.{same-scale, ratio-inside, exact-ratio, ratio-box}
+use Rattle.pair.proofs.Numbers.{min-down, min-up}
 use Rattle.section.specs.Working.{S, constant, units}
 use Rattle.section.specs.Constants.{Exact, ConstantsExact}
 use Rattle.section.specs.Parts.{Fine}
@@ -78,15 +78,11 @@ every-constant-exact n⁺ = record {
 }
 
 -- the smaller of a fixed number and a quotient
-pub min-down : (s q Q m : ℕ) → q * m ≤ Q → min s q * m ≤ min (m * s) Q
-min-down s q Q m h = omega (arith, mul-le-mul-right m (min-le-left s q), mul-le-mul-right m (min-le-right s q))
+pub fixed-min-down : (s q Q m : ℕ) → q * m ≤ Q → min s q * m ≤ min (m * s) Q
+fixed-min-down s q Q m h = min-down s q (m * s) Q m (omega arith) h
 
-pub min-up : (s q Q m : ℕ) → Q ≤ q * m → min (m * s) Q ≤ min s q * m
-min-up s q Q m h = by-outcome (decLe s q)
-  where
-    by-outcome : Dec (s ≤ q) → min (m * s) Q ≤ min s q * m
-    by-outcome (yes p) = let e : min s q ≡ s = omega arith in rw e (omega arith)
-    by-outcome (no f) = let e : min s q ≡ q = omega arith in rw e (omega arith)
+pub fixed-min-up : (s q Q m : ℕ) → Q ≤ q * m → min (m * s) Q ≤ min s q * m
+fixed-min-up s q Q m h = min-up s q (m * s) Q m (omega arith) h
 
 pub min-left : (x y m : ℕ) → min x y * m ≤ x * m
 min-left x y m = mul-le-mul-right m (min-le-left x y)

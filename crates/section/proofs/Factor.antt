@@ -2,18 +2,18 @@
 use Prim.Native.Nat.{ℕ, min, max, _-_, _*_, _/_, _≤_, _<_}
 use mathlib.Core.Path.{_≡_, refl}
 use mathlib.Core.Bool.{Bool, true, false, cond}
-use native.Mathlib.Nat.{le-trans, mul-assoc, mul-one, mul-pos, mul-le-mul-left, mul-le-mul-right, min-le-left, max-le}
+use native.Mathlib.Nat.{le-refl, le-trans, mul-assoc, mul-one, mul-pos, mul-le-mul-left, mul-le-mul-right, min-le-left, max-le}
 use native.Mathlib.Omega.{arith}
 use borrow.Author.Tests.{leb-true, ltb-true, ltb-false}
 use lib.Dec.{leb, ltb, lit<}
 use Rattle.pair.specs.Rounding.{ceilDiv}
 use Rattle.pair.specs.Pairs.{_to_}
-use Rattle.pair.specs.Enclosure.{Inside, AtMost}
+use Rattle.pair.specs.Enclosure.{Inside, NotAbove}
 use Rattle.pair.specs.declared.Pair.{Pair}
 use Rattle.pair.proofs.Numbers.{cross-down, cross-up, cross-mid, ceil-le, le-ceil, sub-mul, pos-left}
 use Rattle.pair.proofs.Laws.{box-wider}
-use Rattle.section.specs.Working.{S, units, χ, χ-before, χ-from}
-use Rattle.section.proofs.Ends.{units-finer, min-down, min-up, min-left, min-right, max-left, max-right}
+use Rattle.section.specs.Working.{S, whole, units, χ, χ-before, χ-from}
+use Rattle.section.proofs.Ends.{every-constant-exact, units-finer, fixed-min-down, fixed-min-up, min-left, min-right, max-left, max-right}
 
 -- 1.38, where the rule jumps; 0.47226, to which it falls there, and 0.66/1.38, to which it jumps up
 abbrev edge : ℕ → ℕ
@@ -55,12 +55,12 @@ module _ (n : ℕ) (n⁺ : 0 < n) (m : ℕ) (m⁺ : 0 < m) where
   before-low : (b B : ℕ) → B ≤ b * m → χ-before n _/_ b * m ≤ χ-before (m * n) _/_ B
   before-low b B h =
       rw (line-down n b, line-down (m * n) B, mul-assoc m n 1000000)
-      (min-down (S n) (line n b / 1000) _ m (cross-down (line n b) 1000 _ 1000 m (lit< tt) (lit< tt) (mul-le-mul-right 1000 (rw sub-mul (omega arith)))))
+      (fixed-min-down (S n) (line n b / 1000) _ m (cross-down (line n b) 1000 _ 1000 m (lit< tt) (lit< tt) (mul-le-mul-right 1000 (rw sub-mul (omega arith)))))
 
   before-high : (a A : ℕ) → a * m ≤ A → χ-before (m * n) ceilDiv A ≤ χ-before n ceilDiv a * m
   before-high a A h =
       rw (line-up n a, line-up (m * n) A, mul-assoc m n 1000000)
-      (min-up (S n) (ceilDiv (line n a) 1000) _ m (cross-up (line n a) 1000 _ 1000 m (lit< tt) (lit< tt) (mul-le-mul-right 1000 (rw sub-mul (omega arith)))))
+      (fixed-min-up (S n) (ceilDiv (line n a) 1000) _ m (cross-up (line n a) 1000 _ 1000 m (lit< tt) (lit< tt) (mul-le-mul-right 1000 (rw sub-mul (omega arith)))))
 
   before-mid : (A B : ℕ) → A ≤ B → χ-before (m * n) _/_ B ≤ χ-before (m * n) ceilDiv A
   before-mid A B h =
@@ -159,29 +159,40 @@ module _ (n : ℕ) (n⁺ : 0 < n) (m : ℕ) (m⁺ : 0 < m) where
 pub χ-inside : {n m : ℕ} {U u : Pair} → 0 < n → 0 < m → Inside m U u → Inside m (χ (m * n) U) (χ n u)
 χ-inside {n} {m} {U} {u} n⁺ m⁺ i = χ-ends n n⁺ m m⁺ (u .lo) (u .hi) (U .lo) (U .hi) i
 
--- χ is at most 1
+-- χ is at most 1, at both ends
 
-before-most : (n u : ℕ) → χ-before n ceilDiv u ≤ S n
-before-most n u = rw (line-up n u) (min-le-left _ _)
+before-most : (n u : ℕ) → (χ-before n _/_ u ≤ S n) × (χ-before n ceilDiv u ≤ S n)
+before-most n u = (rw (line-down n u) (min-le-left _ _), rw (line-up n u) (min-le-left _ _))
 
-from-most : (n u : ℕ) → 0 < n → edge n ≤ u → χ-from n ceilDiv u ≤ S n
+from-most : (n u : ℕ) → 0 < n → edge n ≤ u → (χ-from n _/_ u ≤ S n) × (χ-from n ceilDiv u ≤ S n)
 unfolding χ-from
 from-most n u n⁺ h =
     let edge : 1380000 * n ≤ u = omega arith in
-    ceil-le (omega arith) (omega (arith, mul-le-mul-left n edge))
+    let up = ceil-le {n = 66 * (S n * S n)} {d = 100 * u} {x = S n} (omega arith) (omega (arith, mul-le-mul-left n edge)) in
+    (le-trans (cross-mid (66 * (S n * S n)) (100 * u) (66 * (S n * S n)) (100 * u) (omega arith) (omega arith) (le-refl _)) up, up)
 
-pub χ-most : (n : ℕ) (u : Pair) → 0 < n → AtMost (n * 1000000) (χ n u)
+pub χ-most : (n : ℕ) (u : Pair) → 0 < n → NotAbove (χ n u) (S n to S n)
 unfolding χ
-χ-most n u n⁺ = record { high = by-outcome (ltb (u .hi) (edge n)) (ltb (u .lo) (edge n)) refl }
+χ-most n u n⁺ = by-outcome (ltb (u .hi) (edge n)) (ltb (u .lo) (edge n)) refl refl
   where
-    by-outcome : (p q : Bool) → ltb (u .lo) (edge n) ≡ q
-        → (cond p (χ-before n _/_ (u .hi) to χ-before n ceilDiv (u .lo))
+    by-outcome : (p q : Bool) → ltb (u .hi) (edge n) ≡ p → ltb (u .lo) (edge n) ≡ q
+        → NotAbove
+        (cond p (χ-before n _/_ (u .hi) to χ-before n ceilDiv (u .lo))
         (cond q (min (falls-to n) (χ-from n _/_ (u .hi)) to max (jumps-to n) (χ-before n ceilDiv (u .lo)))
-        (χ-from n _/_ (u .hi) to χ-from n ceilDiv (u .lo)))) .hi ≤ S n
-    by-outcome true q e = before-most n (u .lo)
-    by-outcome false true e = max-le (ceil-le (lit< tt) (omega arith)) (before-most n (u .lo))
-    by-outcome false false e = from-most n (u .lo) n⁺ (ltb-false (u .lo) (edge n) e)
+        (χ-from n _/_ (u .hi) to χ-from n ceilDiv (u .lo))))
+        (S n to S n)
+    by-outcome true q e f = record { low = before-most n (u .hi) .0; high = before-most n (u .lo) .1 }
+    by-outcome false true e f =
+        record { low = le-trans (min-le-left _ _) (omega arith); high = max-le (ceil-le (lit< tt) (omega arith)) (before-most n (u .lo) .1) }
+    by-outcome false false e f =
+        record { low = from-most n (u .hi) n⁺ (ltb-false (u .hi) (edge n) e) .0; high = from-most n (u .lo) n⁺ (ltb-false (u .lo) (edge n) f) .1 }
+
+pub χ-not-above-one : (n : ℕ) (u : Pair) → 0 < n → NotAbove (χ n u) (whole n 1)
+χ-not-above-one n u n⁺ =
+    let most = χ-most n u n⁺ in
+    let one = every-constant-exact n⁺ .wholes 1 in
+    record { low = omega (arith, most .low, one .low); high = omega (arith, most .high, one .high) }
 
 -- a box, in millionths
 pub χ-box : {n a b : ℕ} {U : Pair} → 0 < n → Inside n U (a to b) → Inside n (χ n U) (0 to 1000000)
-χ-box {n} {a} {b} n⁺ i = box-wider 0 1000000 (rw (mul-one n) at (χ-inside {n = 1} (lit< tt) n⁺ i)) (record { low = omega arith }) (χ-most 1 (a to b) (lit< tt))
+χ-box {n} {a} {b} n⁺ i = box-wider 0 1000000 (rw (mul-one n) at (χ-inside {n = 1} (lit< tt) n⁺ i)) (record { low = omega arith }) (record { high = χ-most 1 (a to b) (lit< tt) .high })

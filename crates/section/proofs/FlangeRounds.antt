@@ -10,7 +10,7 @@ use Rattle.pair.specs.Pairs.{_to_}
 use Rattle.pair.specs.Fits.{overFits}
 use Rattle.pair.specs.Enclosure.{Inside, Positive}
 use Rattle.pair.specs.declared.Pair.{Pair}
-use Rattle.pair.proofs.Laws.{positive-inside, over-box}
+use Rattle.pair.proofs.Laws.{positive-inside, over-box, smaller-box, smaller-inside}
 use Rattle.section.specs.declared.Flange.{Flange}
 use Rattle.section.specs.declared.Common.{Common}
 use Rattle.section.specs.declared.Stiffener.{Stiffener}
@@ -44,7 +44,8 @@ module _ {n m : ℕ} (n⁺ : 0 < n) (m⁺ : 0 < m) {x x′ : Common} (t⁺ : Pos
   unfolding refined-flange
   refined-inside f-in d χ₀-in kf-in o-in =
       let s = stiffener-inside n⁺ m⁺ (x-in .cp) f-in χ₀-in in
-      record { stiffener = s; chi = χ-of-inside n⁺ m⁺ t⁺ (d .a) (d .J) x-in kf-in (g-inside n⁺ m⁺ (d .a) (f-in .bp) s) o-in s }
+      let new = χ-of-inside n⁺ m⁺ t⁺ (d .a) (d .J) x-in kf-in (g-inside n⁺ m⁺ (d .a) (f-in .bp) s) o-in s in
+      record { stiffener = s; chi = smaller-inside new χ₀-in }
 
 -- a and J of a stiffener in its box are above zero, for a flange of width β in 0.01 mm with a lip of γ in 0.005 mm
 pub box-divisors : {n t fyb γ β : ℕ} {s : Stiffener} → Fine n → FlangeNumbers t fyb γ β → StiffenerBox n γ β s → StiffenerDivisors n (mm n t) s
@@ -98,4 +99,4 @@ module _ {n : ℕ} (f : Fine n) (x : Common) {γ β : ℕ} (v : FlangeNumbers (x
   unfolding refined-flange
   refined-box l χ₀ cp-box b χ₀-in =
       let s = stiffener-box n f v l χ₀ cp-box b χ₀-in in
-      record { stiffener = s; chi = χ-in (b .bp) s }
+      record { stiffener = s; chi = smaller-box (χ-in (b .bp) s) χ₀-in }

@@ -2,7 +2,7 @@
 -- the printed figures
 pub use Rattle.section.proofs.PrintedFigures.{FiguresBelow, allowed-is-met, area-of-form, axial-of-form, chi1-of-form, chi2-of-form}
 pub use Rattle.section.proofs.PrintedFigures.{not-allowed-is-unmet, shifthi-of-form, shiftlo-of-form}
-pub use Rattle.section.proofs.Theorems.{figures-have-ten-digits, fineness-fine, finer-working-held, finer-working-inside}
+pub use Rattle.section.proofs.Theorems.{figures-have-ten-digits, fineness-fine, finer-working-held, finer-working-inside, printed-factors-never-rise}
 -- a sheet and its values in the order of the lines
 pub use Rattle.section.proofs.SheetValues.{same-values, values-of-sheet}
 -- written constants, exact at every scale (kf = 0 among them)

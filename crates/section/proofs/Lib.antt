@@ -30,6 +30,7 @@ pub mod PrintedFigures
 pub mod NothingCut
 pub mod NothingZero
 pub mod Exchange
+pub mod Falling
 pub mod Theorems
 pub mod SheetValues
 pub mod Laws

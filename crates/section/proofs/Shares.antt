@@ -13,7 +13,7 @@ use Rattle.pair.specs.declared.Pair.{Pair}
 use Rattle.pair.proofs.Numbers.{cross-down, cross-up, cross-mid, sub-mul, pos-left}
 use Rattle.pair.proofs.Laws.{box-wider}
 use Rattle.section.specs.Working.{S, ρ, ρ-at, ρ-plane, ρ-lip}
-use Rattle.section.proofs.Ends.{units-finer, min-down, min-up}
+use Rattle.section.proofs.Ends.{units-finer, fixed-min-down, fixed-min-up}
 
 -- (u − c) ÷ u² falls from 2 c on: with v = 2 c + h and u = v + d, by multiplying out
 falls-at : (c h d : ℕ) → (c + h + d) * ((2 * c + h) * (2 * c + h)) ≤ (c + h) * ((2 * c + h + d) * (2 * c + h + d))
@@ -63,7 +63,7 @@ module _ (limit less : ℕ) (limit⁺ : 0 < limit) (half : 2 * less ≤ limit) (
       by-outcome true true e f = omega arith
       by-outcome true false e f = absurd (omega (arith, leb-false B (limit * m) f, mul-le-mul-right m (leb-true b limit e)))
       by-outcome false true e f = omega (arith, mul-le-mul-right m (min-le-left (S n) ((b - less) * (S n * S n) / (b * b))))
-      by-outcome false false e f = rw (mul-assoc m n 1000000) (min-down (S n) _ _ m (past-down (S n) b B (leb-false B (limit * m) f) k))
+      by-outcome false false e f = rw (mul-assoc m n 1000000) (fixed-min-down (S n) _ _ m (past-down (S n) b B (leb-false B (limit * m) f) k))
 
   up-high : (a A : ℕ) → a * m ≤ A → ρ-at (m * n) ceilDiv (limit * m) (less * m) A ≤ ρ-at n ceilDiv limit less a * m
   unfolding ρ-at
@@ -75,7 +75,7 @@ module _ (limit less : ℕ) (limit⁺ : 0 < limit) (half : 2 * less ≤ limit) (
       by-outcome true true e f = omega arith
       by-outcome true false e f = omega arith
       by-outcome false true e f = absurd (omega (arith, leb-true A (limit * m) f, mul-le-mul-right m (leb-false a limit e)))
-      by-outcome false false e f = rw (mul-assoc m n 1000000) (min-up (S n) _ _ m (past-up (S n) a A (leb-false a limit e) k))
+      by-outcome false false e f = rw (mul-assoc m n 1000000) (fixed-min-up (S n) _ _ m (past-up (S n) a A (leb-false a limit e) k))
 
   ends-mid : (A B : ℕ) → A ≤ B → ρ-at (m * n) _/_ (limit * m) (less * m) B ≤ ρ-at (m * n) ceilDiv (limit * m) (less * m) A
   unfolding ρ-at

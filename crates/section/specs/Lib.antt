@@ -4,6 +4,7 @@ pub mod Working
 pub mod Figures
 pub mod Forms
 pub mod Exchanged
+pub mod Refining
 pub mod Nested
 pub mod Parts
 pub mod Room

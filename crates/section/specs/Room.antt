@@ -6,6 +6,7 @@ use mathlib.Core.Path.{_≡_}
 use mathlib.Core.Bool.{true}
 use Rattle.pair.specs.Pairs.{root, cubeRoot}
 use Rattle.pair.specs.Fits.{ratioFits, plusFits, minusFits, timesFits, overFits, timesRatioFits, overRatioFits, rootFits, cubeRootFits}
+use Rattle.pair.specs.Enclosure.{NotAbove}
 use Rattle.pair.specs.declared.Pair.{Pair}
 use Rattle.section.specs.declared.Flange.{Flange}
 use Rattle.section.specs.declared.Common.{Common}
@@ -13,7 +14,7 @@ use Rattle.section.specs.declared.Member.{Member}
 use Rattle.section.specs.declared.Stiffener.{Stiffener}
 use Rattle.section.specs.declared.Round.{Round}
 use Rattle.section.specs.Working.{_⊕_, _⊖_, S, constant, mm, core, strength, ρ-plane, ρ-lip, k, stiffener-of, g, J, T, kf, D, ud, round}
-use Rattle.section.specs.Parts.{Fine, Operations, operations}
+use Rattle.section.specs.Parts.{Fine, Operations, operations, own-factors}
 
 -- up to which slenderness a width counts in full and what is taken off past it, in millionths
 pub record Curve (full less : ℕ) : Type 0 where
@@ -226,3 +227,8 @@ module _ (n : ℕ) where
     pub fine : Fine n
     pub room : (χ₁ χ₂ : Pair) → Factor χ₁ → Factor χ₂ → RoundRoom x χ₁ χ₂
     pub most : (χ₁ χ₂ : Pair) → Factor χ₁ → Factor χ₂ → FactorsMost (round n x χ₁ χ₂)
+
+  -- no factor of a round is above the one that its own stiffener gives: it is the smaller of that and the one before
+  pub record AtMostOwn (x : Member) (r : Round) : Type 0 where
+    pub one : NotAbove (r .one .chi) ((own-factors n x r) .one .chi)
+    pub two : NotAbove (r .two .chi) ((own-factors n x r) .two .chi)

@@ -1,8 +1,8 @@
 -- A sheet's numbers in the order of its lines, lengths in 0.01 mm, and the claims of the questions on them. (docs/WORKING.md, 14 and 15.)
 -- Each claim stands once, here with its numbers; crate certificate asks the claims in order, each with its refusal.
 use Prim.Native.Nat.{ℕ, _-_, _*_}
-use mathlib.Core.List.{List, [], _∷_}
-use lib.ListN.{getD}
+use mathlib.Core.List.{List, [], _∷_, _++_}
+use lib.ListN.{getD, take, drop}
 use Rattle.section.specs.declared.Sheet.{Sheet}
 use Rattle.questions.specs.Claims.{Claim, _≤?_, _≡?_, _and_, _or_, pairwise}
 
@@ -37,6 +37,10 @@ sheetOf vs =
 unfoldable pub valuesOf : Sheet → List ℕ
 valuesOf q =
     q .form ∷ q .h ∷ q .b1 ∷ q .b2 ∷ q .c ∷ q .r ∷ q .tnom .0 ∷ q .t .0 ∷ q .fyb ∷ q .gm0 ∷ q .rounds ∷ q .allow ∷ q .fine ∷ []
+
+-- the same sheet but for line 11, rounds, which is i
+unfoldable pub with-rounds : ℕ → Sheet → Sheet
+with-rounds i q = sheetOf (take 10 (valuesOf q) ++ (i ∷ drop 11 (valuesOf q)))
 
 -- the fineness of its working: our scale, the sheet's own, is so many times 1,000,000 (W-204)
 unfoldable pub fineness : Sheet → ℕ

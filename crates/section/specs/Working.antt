@@ -1,4 +1,4 @@
--- The working of a section, in document 01's order and with its symbols, one definition for each formula, as document 02 amends it (W-201: kf; W-204: the scale).
+-- The working of a section, in document 01's order and with its symbols, one definition for each formula, as document 02 amends it (W-201: kf; W-204: the scale; W-205: the smaller χ).
 -- docs/WORKING.md has the same in words; the numbers in brackets are its sections.
 -- n is the fineness: the scale S is n × 1,000,000. At a sheet's own n (`fineness` of specs/Sheets) this is its working, and at m × n the same paper with S
 -- replaced by m × S.
@@ -6,7 +6,7 @@ use Prim.Native.Nat.{ℕ, zero, suc, _-_, _*_, _/_, min, max}
 use mathlib.Core.Bool.{cond}
 use lib.Dec.{leb, ltb}
 use Rattle.pair.specs.Rounding.{ceilDiv}
-use Rattle.pair.specs.Pairs.{_to_, ratio, plus, minus, times, over, root, cubeRoot}
+use Rattle.pair.specs.Pairs.{_to_, ratio, plus, minus, times, over, root, cubeRoot, smaller}
 use Rattle.pair.specs.SignedPairs.{SignedPair, signed, difference, signedPlus, signedMinus, signedTimes, signedOver}
 use Rattle.pair.specs.declared.Pair.{Pair}
 use Rattle.section.specs.declared.Flange.{Flange}
@@ -185,12 +185,12 @@ module _ (n : ℕ) where
   unfoldable pub χ-of : Common → Pair → Pair → Pair → Stiffener → Pair
   χ-of y kf g o s = χ (ud (D (y .hp) kf g o) (J (core y) s) (T (core y) (strength y) s))
 
-  -- One flange's part of a round: its stiffener, from its χ of the round before, and its χ, from its kf and o, the other flange's g (8 to 10).
-  -- Flange 1 and flange 2 are this one definition.
+  -- One flange's part of a round: its stiffener, from its χ of the round before, and the smaller of that χ and the new one, end by end (W-205), which
+  -- comes from its kf and o, the other flange's g (8 to 10). Flange 1 and flange 2 are this one definition.
   unfoldable pub refined-flange : Common → Flange → Pair → Pair → Pair → RefinedFlange
   refined-flange y f χ₀ kf o =
       let s = stiffener-of (y .cp) f χ₀ in
-      record { stiffener = s; chi = χ-of y kf (g (f .bp) s) o s }
+      record { stiffener = s; chi = smaller (χ-of y kf (g (f .bp) s) o s) χ₀ }
 
   -- one round, from both flanges' χ of the round before; each flange has its own kf (10)
   unfoldable pub round : Member → Pair → Pair → Round
@@ -202,7 +202,7 @@ module _ (n : ℕ) where
         two = refined-flange (x .common) (x .two) χ₂ (kf s₂ s₁) (g (x .one .bp) s₁);
       }
 
-  -- the first working, at χ = 1, and as many refining rounds as the sheet says
+  -- the first working, at χ = 1, which no χ is above, and as many refining rounds as the sheet says
   unfoldable pub rounds : Member → ℕ → Round
   rounds x zero = round x (whole 1) (whole 1)
   rounds x (suc i) = let r = rounds x i in round x (r .one .chi) (r .two .chi)

@@ -16,8 +16,8 @@ ghost use mathlib.Core.Bool.{true, _&&_};
 ghost use Prim.Native.Nat.{_*_};
 ghost use lib.Dec.{eqb};
 ghost use Rattle.section.specs.Working.{flange-of, stiffener-of, round, rounds, mm, whole};
-ghost use Rattle.section.specs.Parts.{fourth-of, factors};
-ghost use Rattle.section.specs.Room.{FlangeRoom, StiffenerRoom, FactorRoom, FactorsRoom, RoundRoom, Steady};
+ghost use Rattle.section.specs.Parts.{fourth-of, factors, lowered, lowered-round};
+ghost use Rattle.section.specs.Room.{FlangeRoom, StiffenerRoom, FactorRoom, FactorsRoom, RoundRoom, Steady, AtMostOwn};
 
 // Whether two pairs have the same ends.
 fn same(p: Pair, q: Pair) -> bool
@@ -99,7 +99,7 @@ fn fourth_of(n: u64, y: Common, kf: Pair, g: Pair, o: Pair, s: Stiffener) -> Pai
     stiffeners::slenderness_fourth(n, d, j, load)
 }
 
-// A round, from both flanges' widths and stiffeners; each flange has its own kf (W-201), and both roots
+// The factors that both flanges' stiffeners give; each flange has its own kf (W-201), and both roots
 // are worked side by side.
 fn unequal_factors(n: u64, y: Common, bp1: Pair, bp2: Pair, one: Stiffener, two: Stiffener) -> Round
     requires { ⌜ FactorsRoom n y bp1 bp2 one two ⌝ }
@@ -130,7 +130,7 @@ fn unequal_factors(n: u64, y: Common, bp1: Pair, bp2: Pair, one: Stiffener, two:
     }
 }
 
-// The round of two equally wide flanges with one stiffener, worked once.
+// The factors of two equally wide flanges with one stiffener, worked once.
 fn equal_factors(n: u64, y: Common, bp: Pair, one: Stiffener) -> Round
     requires { ⌜ FactorsRoom n y bp bp one one ⌝ }
     ensures { λ r. ⌜ r ≡ factors n y bp bp one one ⌝ }
@@ -152,7 +152,7 @@ fn equal_factors(n: u64, y: Common, bp: Pair, one: Stiffener) -> Round
     }
 }
 
-// A round, from both flanges' widths and stiffeners.
+// The factors that both flanges' stiffeners give.
 fn factors_of(n: u64, y: Common, bp1: Pair, bp2: Pair, one: Stiffener, two: Stiffener) -> Round
     requires { ⌜ FactorsRoom n y bp1 bp2 one two ⌝ }
     ensures { λ r. ⌜ r ≡ factors n y bp1 bp2 one two ⌝ }
@@ -188,10 +188,28 @@ fn second_stiffener(
     stiffener_of(n, cp, f, chi)
 }
 
-// The round behind another. Where both stiffeners stay, it is the same round.
+// One flange's part of a round, with the smaller of its factor and the one of the round before (W-205).
+fn lowered(new: RefinedFlange, last: RefinedFlange) -> RefinedFlange
+    ensures { λ r. ⌜ r ≡ lowered new (last .chi) ⌝ }
+{
+    let stiffener = new.stiffener;
+    let chi = new.chi.smaller(last.chi);
+    RefinedFlange { stiffener, chi }
+}
+
+// A round, with the smaller of each factor and the one of the round before.
+fn lowered_round(new: Round, last: Round) -> Round
+    ensures { λ r. ⌜ r ≡ lowered-round new (last .one .chi) (last .two .chi) ⌝ }
+{
+    let one = lowered(new.one, last.one);
+    let two = lowered(new.two, last.two);
+    Round { one, two }
+}
+
+// The round behind another. Where both stiffeners stay, it is the same round: the factors that it has
+// are at most those that its stiffeners give, so they are the smaller again.
 fn next_round(n: u64, x: Member, last: Round) -> Round
-    requires { ⌜ RoundRoom n x (last .one .chi) (last .two .chi) ⌝ }
-    requires { ⌜ last ≡ factors n (x .common) (x .one .bp) (x .two .bp) (last .one .stiffener) (last .two .stiffener) ⌝ }
+    requires { ⌜ RoundRoom n x (last .one .chi) (last .two .chi) × AtMostOwn n x last ⌝ }
     ensures { λ r. ⌜ r ≡ round n x (last .one .chi) (last .two .chi) ⌝ }
 {
     let one = stiffener_of(n, x.common.cp, x.one, last.one.chi);
@@ -200,10 +218,11 @@ fn next_round(n: u64, x: Member, last: Round) -> Round
     if same_stiffener(one, last.one.stiffener) && same_stiffener(two, last.two.stiffener) {
         return last;
     }
-    factors_of(n, x.common, x.one.bp, x.two.bp, one, two)
+    let new = factors_of(n, x.common, x.one.bp, x.two.bp, one, two);
+    lowered_round(new, last)
 }
 
-// The first working, with all factors 1.
+// The first working, with all factors 1: no factor is above that, so nothing is lowered.
 pub fn first_round(n: u64, x: Member) -> Round
     requires { ⌜ Steady n x ⌝ }
     ensures { λ r. ⌜ r ≡ rounds n x 0 ⌝ }

@@ -9,6 +9,7 @@ use reference::finer::{failures, MULTIPLES};
 use reference::generate::sections;
 use reference::named::{SHEET_A, SHEET_B};
 use reference::random::any_section;
+use reference::rising::{rising, with_all_rounds};
 use reference::sheet::{Figures, Numbers, Sheet, RANGES};
 use reference::text::{read_certificate, LONGEST_CERTIFICATE as LONGEST, MOST_SPELT};
 
@@ -171,6 +172,37 @@ pub fn figures_moved(step: usize) -> Tried {
 pub fn random_sections(seed: u64, count: u64) -> Tried {
     let mut chance = Chance::seeded(seed);
     given((0..count).map(|_| any_section(&mut chance).numbers()))
+}
+
+/// Tries a sheet with each number of rounds side by side. The chi1 and chi2 that a written
+/// certificate shows are no larger than those of the one written before it (W-205).
+fn try_all_rounds(agreed: &mut Agreed, sheet: &Sheet) -> Result<(), String> {
+    let mut before: Option<Figures> = None;
+    for sheet in with_all_rounds(sheet) {
+        let Some(certificate) = try_sheet(agreed, sheet.numbers())? else {
+            continue;
+        };
+        let (_, figures) = read_certificate(&certificate).expect("a certificate");
+        let risen = |old: &Figures| figures.chi1 > old.chi1 || figures.chi2 > old.chi2;
+        if let Some(old) = before.filter(risen) {
+            let rise = format!("{old:?} with fewer rounds, then {figures:?}");
+            return Err(format!("chi1 or chi2 rises: {rise} of {sheet:?}\n"));
+        }
+        before = Some(figures);
+    }
+    Ok(())
+}
+
+/// Sheets whose χ rose before W-205, and random sections, with each number of rounds.
+pub fn rounds_side_by_side(seed: u64, count: u64) -> Tried {
+    let mut agreed = Agreed::default();
+    let mut chance = Chance::seeded(seed);
+    let rose = rising().into_iter().map(|(_, sheet)| sheet);
+    let random = (0..count).map(|_| any_section(&mut chance));
+    for sheet in rose.chain(random) {
+        try_all_rounds(&mut agreed, &sheet)?;
+    }
+    Ok(agreed)
 }
 
 /// Random sections with some numbers moved, most of them to be refused.

@@ -120,6 +120,9 @@ fn certificates(asked: &Asked, count: u64) -> Result<u64, String> {
         ("a fault at every place", &groups::every_place),
         ("figures moved", &|| groups::figures_moved(step)),
         ("random sections", &|| groups::random_sections(seed, count)),
+        ("rounds side by side", &|| {
+            groups::rounds_side_by_side(seed, count / 20)
+        }),
         ("random numbers", &|| groups::random_numbers(seed, count)),
         ("damaged sheets", &|| groups::damaged_sheets(seed, count)),
         ("damaged certificates", &|| {

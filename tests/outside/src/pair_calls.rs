@@ -59,6 +59,7 @@ extern "C" {
     pub fn pair_root(lo: u64, hi: u64, s: u64) -> Pair;
     pub fn pair_roots(lo: u64, hi: u64, least: u64, most: u64, s: u64) -> TwoPairs;
     pub fn pair_cube_root(lo: u64, hi: u64, s: u64) -> Pair;
+    pub fn pair_smaller(lo: u64, hi: u64, least: u64, most: u64) -> Pair;
 
     pub fn pair_difference(a: u64, b: u64) -> Integer;
     pub fn pair_negated(a: Integer) -> Integer;

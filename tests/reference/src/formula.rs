@@ -22,6 +22,11 @@ impl Quantity {
         quantity(self.pair.root(), self.power / 2)
     }
 
+    /// The smaller of the two, end by end.
+    fn smaller(self, other: Quantity) -> Quantity {
+        quantity(self.pair.smaller(other.pair), self.common_power(other))
+    }
+
     /// The unit that a sum of the two has.
     fn common_power(self, other: Quantity) -> i32 {
         assert_eq!(self.power, other.power, "a sum of different units");
@@ -128,6 +133,11 @@ impl Reader<'_> {
         if self.passes("root of ") {
             return self.factor().root();
         }
+        if self.passes("the smaller of ") {
+            let one = self.sum();
+            assert!(self.passes("and "), "no second before {}", self.rest);
+            return one.smaller(self.sum());
+        }
         if self.passes("(") {
             let value = self.sum();
             assert!(self.passes(")"), "no bracket before {}", self.rest);
@@ -189,6 +199,18 @@ mod tests {
         assert_eq!(worked("12÷2÷4"), (1_500_000, 1_500_000, 0));
         // Rounded at once, and not at the end.
         assert_eq!(worked("1÷3×3"), (999_999, 1_000_002, 0));
+    }
+
+    #[test]
+    fn the_smaller_is_taken_end_by_end() {
+        assert_eq!(
+            worked("the smaller of a and a of flange 2"),
+            (2_000_000, 2_000_000, 1)
+        );
+        assert_eq!(
+            worked("the smaller of 1÷3×3 and 1"),
+            (999_999, 1_000_000, 0)
+        );
     }
 
     #[test]

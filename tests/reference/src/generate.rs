@@ -37,7 +37,7 @@ const SEARCHES: [Search; 21] = [
     (allowance_one_short, 10),
     (ratio_past_and_thick, 4),
     (deep_lips_of_c, 6),
-    (lip_across_flange, 12),
+    (lip_across_flange, 16),
 ];
 
 /// Sheet B first, sheet A, the longest lip, then all searches, then the finer of the kept

@@ -10,7 +10,7 @@ use crate::working::{Round, Stiffener, Working};
 /// A kind of section: its name and how to know it.
 pub type Kind = (&'static str, fn(&Sheet, &Working) -> bool);
 
-pub const KINDS: [Kind; 25] = [
+pub const KINDS: [Kind; 26] = [
     ("form C", |s, _| !s.is_z()),
     ("form Z", |s, _| s.is_z()),
     ("flange 1 wider", |s, _| s.b1 > s.b2),
@@ -50,6 +50,9 @@ pub const KINDS: [Kind; 25] = [
     }),
     ("ud straddling 1.38 in an earlier round", |_, w| {
         straddles_earlier(w)
+    }),
+    ("χ of the round before kept in the last round", |_, w| {
+        keeps_old_factor(w)
     }),
     ("form Z with hp < c/2", |s, _| {
         s.is_z() && 2 * (s.h - s.tnom) < s.c
@@ -131,6 +134,11 @@ pub(crate) fn straddles_last(working: &Working) -> bool {
 pub(crate) fn straddles_earlier(working: &Working) -> bool {
     let last = working.rounds.len() - 1;
     some_stiffener(&working.rounds[..last], |s| straddles_jump(s.ud))
+}
+
+fn keeps_old_factor(working: &Working) -> bool {
+    let last = working.rounds.len() - 1;
+    some_stiffener(&working.rounds[last..], |s| s.chi != s.chi_new)
 }
 
 /// hp − c2÷2.

@@ -14,6 +14,9 @@ pub mod working;
 /// Demand 3.
 pub mod finer;
 
+/// The working before W-205.
+pub mod refining;
+
 // Sheet B worked step by step, from the formulas' text.
 pub mod formula;
 pub mod steps;
@@ -29,6 +32,7 @@ pub mod kinds;
 pub mod limits;
 pub mod named;
 pub mod random;
+pub mod rising;
 pub mod section_cases;
 pub mod thresholds;
 

@@ -56,6 +56,11 @@ impl Pair {
         (self.lo, self.hi)
     }
 
+    /// The smaller of two values, end by end.
+    pub fn smaller(self, other: Pair) -> Pair {
+        common_scale(self, other).pair(self.lo.min(other.lo), self.hi.min(other.hi))
+    }
+
     /// Square root of x/S is the root of x×S, in units.
     pub fn root(self) -> Pair {
         let s = self.scale.units;
@@ -233,6 +238,17 @@ mod tests {
         let divisor = s().pair(2_000_000, 4_000_000);
         assert_eq!((s().pair(-10, -7) / divisor).ends(), (-5, -1));
         assert_eq!((s().pair(-10, 7) / divisor).ends(), (-5, 4));
+    }
+
+    #[test]
+    fn the_smaller_takes_each_end_by_itself() {
+        let pairs =
+            [(10, 20), (5, 30), (5, 20), (12, 15), (10, 15), (1, 2)].map(|(l, h)| s().pair(l, h));
+        let [x, wide, both, narrow, upper, below] = pairs;
+        assert_eq!((x.smaller(wide), wide.smaller(x)), (both, both));
+        assert_eq!((x.smaller(narrow), narrow.smaller(x)), (upper, upper));
+        assert_eq!((x.smaller(below), below.smaller(x)), (below, below));
+        assert_eq!(x.smaller(x), x);
     }
 
     #[test]

@@ -2,6 +2,7 @@
 
 use crate::edges::edges;
 use crate::generate::worked_sections;
+use crate::rising::{rising, with_all_rounds};
 use crate::sheet::{ask_before_working, Figures, Numbers, Sheet};
 use crate::working::{worked, Working};
 use std::fmt::Display;
@@ -25,6 +26,17 @@ pub fn searched() -> Lines {
     let mut lines = Lines::default();
     for (sheet, working) in worked_sections() {
         lines.add(sheet.numbers(), &result_line(&sheet, &working));
+    }
+    lines
+}
+
+/// The sheets of which χ rose before W-205, with each number of rounds side by side.
+pub fn side_by_side() -> Lines {
+    let mut lines = Lines::default();
+    for (_, sheet) in rising() {
+        for sheet in with_all_rounds(&sheet) {
+            lines.add(sheet.numbers(), &result_line(&sheet, &worked(&sheet)));
+        }
     }
     lines
 }

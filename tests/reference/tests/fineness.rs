@@ -40,7 +40,7 @@ fn sheet_b_with_fine_10() {
     assert!((120..=128).contains(&figures.shifthi));
 }
 
-/// The sheet of examples/fine.txt: with fine=1 it would need an allowance above 10.
+/// The sheet of examples/fine.txt: with fine=1 it would need more than twice its allowance.
 #[test]
 fn a_tight_allowance_is_met_with_fine_10() {
     let fine = fine_section();
@@ -54,7 +54,7 @@ fn a_tight_allowance_is_met_with_fine_10() {
         }
     );
     assert_eq!(printed(text_of(coarse).as_bytes()), "refused=11\nline=12\n");
-    assert!(needed_allowance(&coarse) > 10);
+    assert!(needed_allowance(&coarse) > 2 * fine.allow);
     assert!(needed_allowance(&fine) <= fine.allow);
     let certificate = certificate_of(fine);
     assert!(certificate.starts_with(&text_of(fine)));

@@ -102,7 +102,8 @@ fn plain(sheet: &Sheet) -> Plain {
             let kf = (be2[o] + c[o]) / (be2[i] + c[i]);
             let stress = critical_stress(be2[i], c[i], t, b[i], b[o], hp, kf);
             let ud = (fyb / stress).sqrt();
-            chi[i] = factor(ud);
+            // W-205, after 4.3.2.2(9) of 000: not above the value before, which is 1 at first.
+            chi[i] = factor(ud).min(chi[i]);
             met.push(ud);
         }
     }

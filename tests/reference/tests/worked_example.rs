@@ -11,7 +11,7 @@ use reference::working::worked;
 fn every_kept_pair_is_shown() {
     let section = worked_example();
     let named = worked(&SHEET_B).named();
-    assert_eq!(named.len(), 98);
+    assert_eq!(named.len(), 102);
     for (name, pair) in named {
         let [lower, upper] = [pair.lo, pair.hi].map(|end| fixed(end, pair.scale));
         let cells = format!("| {lower} | {upper} |");

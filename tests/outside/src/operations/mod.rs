@@ -28,7 +28,7 @@ mod words;
 /// An operation's name, and one call of it.
 pub type Operation = (&'static str, fn(&mut Chance) -> Tried);
 
-pub const OPERATIONS: [Operation; 35] = [
+pub const OPERATIONS: [Operation; 36] = [
     ("high", words::high),
     ("product_by", words::product_by),
     ("floor_of", words::floor_of),
@@ -46,6 +46,7 @@ pub const OPERATIONS: [Operation; 35] = [
     ("root", pairs::root),
     ("roots", pairs::roots),
     ("cube_root", pairs::cube_root),
+    ("smaller", pairs::smaller),
     ("Integer difference", signed::difference),
     ("Integer negated", signed::negated),
     ("Integer plus", signed::sum),

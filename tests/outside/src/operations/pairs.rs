@@ -91,3 +91,19 @@ pub fn cube_root(chance: &mut Chance) -> Tried {
     let (r, call) = called!(pair_cube_root(p.lo, p.hi, s));
     hold(encloses_roots(chance, r, p, square, 3), call)
 }
+
+/// Any two pairs, or one inside the other: then each gives one end.
+pub fn smaller(chance: &mut Chance) -> Tried {
+    let p = ends(chance, MOST);
+    let mut q = ends(chance, MOST);
+    if chance.one_in(2) {
+        let (lo, hi) = (up_to(chance, p.lo), at_least(chance, p.hi));
+        q = Pair { lo, hi };
+    }
+    let (p, q) = if chance.one_in(2) { (p, q) } else { (q, p) };
+    let (r, call) = called!(pair_smaller(p.lo, p.hi, q.lo, q.hi));
+    let is_least = |end, a, b| end <= a && end <= b && (end == a || end == b);
+    let each_end = is_least(r.lo, p.lo, q.lo) && is_least(r.hi, p.hi, q.hi);
+    let exact = |x: i128, y, steps| Fraction::new(x.min(y), 1, steps);
+    hold(each_end && encloses(chance, r, p, q, exact), call)
+}

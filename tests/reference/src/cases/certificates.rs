@@ -7,7 +7,7 @@ use crate::named::{SHEET_A, SHEET_B};
 use crate::sheet::{Figures, CERTIFICATE_LINES};
 
 fn passing_certificates() -> Vec<Case> {
-    vec![
+    let mut cases = vec![
         case("marked_09_a", certificate_of(SHEET_A), Passes),
         case("marked_10_b", certificate_of(SHEET_B), Passes),
         case("z_section", certificate_of(z_section()), Passes),
@@ -16,12 +16,21 @@ fn passing_certificates() -> Vec<Case> {
         case("fine_a", certificate_of(with(SHEET_A, "fine=10")), Passes),
         case("fine_b", certificate_of(with(SHEET_B, "fine=10")), Passes),
         case("fine_section", certificate_of(fine_section()), Passes),
-    ]
+    ];
+    for (name, sheet) in would_rise() {
+        let sheet = Sheet { rounds: 8, ..sheet };
+        cases.push(case(
+            format!("rounds_8_{name}"),
+            certificate_of(sheet),
+            Passes,
+        ));
+    }
+    cases
 }
 
 /// Certificates as they were written while flange 2 had flange 1's ratio, before W-201, and no sheet
 /// had the line fine, before W-204: as they stand the first question refuses them. With fine=1 those
-/// of equal flanges pass, and sheet B's does not.
+/// of equal flanges pass, whose χ do not rise with the rounds, and sheet B's does not.
 fn older_certificates() -> Vec<Case> {
     let wide_c = [
         0, 45879, 17000, 17000, 4469, 267, 428, 425, 529, 1060, 1, 1000, 1,
@@ -59,6 +68,37 @@ fn older_certificates() -> Vec<Case> {
     .into_iter()
     .flatten()
     .collect()
+}
+
+/// A certificate's name, the numbers of its sheet, its figures, and which question and line refuse it now.
+type Older = (
+    &'static str,
+    Numbers,
+    FigureNumbers,
+    Option<(u64, &'static str)>,
+);
+
+/// Certificates as they were written while χ could rise with the rounds, before W-205. Where it rose, one would
+/// need a larger allowance now and the others are refused at the first line that differs, but for the one in which
+/// no printed figure did. Where it did not rise they pass.
+#[rustfmt::skip] // a row to a line
+const OLDER_REFINED: [Older; 8] = [
+    ("13_risen_both",      [1, 20000, 6700, 5900, 2000, 300, 150, 146, 350, 1000, 3, 10, 1],            [25946, 90811, 627, 680, 213, 214],    Some((13, "area"))),
+    ("13_risen_both_fine", [0, 25000, 7000, 6500, 2500, 300, 150, 146, 350, 1000, 3, 2, 10],            [27252, 95385, 632, 669, 185, 187],    Some((13, "area"))),
+    ("13_risen_axial",     [0, 17254, 3288, 2000, 851, 105, 76, 69, 490, 1278, 2, 1000, 1],             [4504, 17272, 398, 529, 247, 248],     Some((13, "axial"))),
+    ("13_risen_shifthi",   [1, 45855, 18774, 9268, 4575, 773, 453, 453, 316, 1010, 7, 1000, 1],         [225051, 704122, 687, 925, 388, 389],  Some((13, "shifthi"))),
+    ("11_risen_allowance", [1, 41488, 10713, 9527, 3409, 630, 477, 199, 264, 1225, 8, 1, 10],           [56977, 122791, 658, 704, 339, 340],   Some((11, "allow"))),
+    ("risen_below_print",  [0, 19160, 9864, 4393, 2048, 325, 304, 242, 463, 1375, 8, 1000, 1],          [51025, 171816, 493, 837, 623, 624],   None),
+    ("not_risen_b",        [0, 20000, 7400, 6600, 2080, 300, 200, 196, 350, 1000, 8, 10, 1],            [43755, 153145, 693, 740, 124, 125],   None),
+    ("not_risen_fine",     [0, 30701, 5937, 10217, 2911, 308, 527, 522, 430, 1190, 3, 1000, 10],        [197239, 712712, 1000, 863, 35, 36],   None),
+];
+
+fn older_refined_certificates() -> Vec<Case> {
+    let of_row = |(name, sheet, figures, refusal): Older| {
+        let meant = refusal.map_or(Passes, |(number, key)| refused(number, key));
+        case(name, certificate_lines(sheet, figures), meant)
+    };
+    OLDER_REFINED.map(of_row).into()
 }
 
 /// Of sheet A's certificate.
@@ -187,6 +227,7 @@ pub fn certificates() -> Vec<Case> {
     [
         passing_certificates(),
         older_certificates(),
+        older_refined_certificates(),
         misspelt_certificates(),
         wrong_certificates(),
     ]

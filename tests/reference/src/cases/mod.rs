@@ -114,6 +114,21 @@ pub fn fine_section() -> Sheet {
     )
 }
 
+/// Sections whose χ would rise in the first round but for W-205, by the flanges that rise.
+pub fn would_rise() -> [(&'static str, Sheet); 5] {
+    let one = with(
+        SHEET_B,
+        "h=15000 b1=4500 b2=4000 c=1600 tnom=120 t=116 rounds=1",
+    );
+    [
+        ("flange_1", one),
+        ("flange_2", with(one, "form=1 b1=4000 b2=4500")),
+        ("both", z_section()),
+        ("both_fine", fine_section()),
+        ("equal_fine", with(z_section(), "b2=6700 fine=10")),
+    ]
+}
+
 /// The text with each of its lines, the newline left aside, changed in turn.
 pub fn each_line_changed(text: &str, change: impl Fn(&str) -> String) -> Vec<String> {
     let lines: Vec<&str> = text.lines().collect();

@@ -64,6 +64,18 @@ fn accepted_and_marked() -> Vec<Case> {
     ])
 }
 
+/// With more rounds χ stays, or falls.
+fn refined() -> Vec<Case> {
+    let mut cases = Vec::new();
+    for (name, sheet) in would_rise() {
+        for rounds in [0, 1, 8] {
+            let text = text_of(Sheet { rounds, ..sheet });
+            cases.push(case(format!("rounds_{rounds}_{name}"), text, Passes));
+        }
+    }
+    cases
+}
+
 fn ranges() -> Vec<Case> {
     let b = SHEET_B;
     changed(&[
@@ -333,6 +345,7 @@ fn misspelt_sheets() -> Vec<Case> {
 pub fn sheets() -> Vec<Case> {
     [
         accepted_and_marked(),
+        refined(),
         misspelt_sheets(),
         ranges(),
         slender(),

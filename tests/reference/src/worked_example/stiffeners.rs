@@ -21,14 +21,15 @@ pub fn round(steps: &mut Steps, working: &Working, number: usize) {
         stiffener(steps, i, &round.stiffeners[i], number == 0);
     }
     for i in 0..2 {
-        factor(steps, i, &round.stiffeners[i]);
+        factor(steps, i, &round.stiffeners[i], number == 0);
     }
 }
 
 /// ρ of both flanges and lips, from the first u² and χ of the round before.
 fn refined_widths(steps: &mut Steps, round: &Round) {
     steps.paragraph(
-        "u² of flange and lip is that of the first working, multiplied by the flange's χ of the round before. be1 stays.",
+        "u² of flange and lip is that of the first working, multiplied by the flange's χ of the round before. be1 stays. \
+         χ of the round is the smaller of the new χ and the old one, end by end.",
     );
     for i in 0..2 {
         let Stiffener { flange, lip, .. } = round.stiffeners[i];
@@ -103,8 +104,8 @@ fn second_moment(steps: &mut Steps, worked: &Stiffener) {
     steps.symbol(STIFFENER, "J", j).is(worked.j);
 }
 
-/// kf, D, ud and χ of one flange.
-fn factor(steps: &mut Steps, i: usize, worked: &Stiffener) {
+/// kf, D and ud of one flange, then χ.
+fn factor(steps: &mut Steps, i: usize, worked: &Stiffener, first: bool) {
     let (owner, other) = (FLANGES[i], FLANGES[1 - i]);
     steps.begin_titled(format!("Factor of {owner}: o = g of {other}"));
     take(steps, &["g", "J", "T"], owner);
@@ -139,9 +140,21 @@ fn factor(steps: &mut Steps, i: usize, worked: &Stiffener) {
     let ud = "root of root of (D÷J×T×T×0.91÷1000000)";
     steps.symbol(STIFFENER, "ud", ud).is(worked.ud);
 
+    thickness_factor(steps, i, worked, first);
+    steps.alias(FACTORS[i], "χ");
+}
+
+/// χ of ud; in a refining round the smaller of that and the flange's χ of the round before.
+fn thickness_factor(steps: &mut Steps, i: usize, worked: &Stiffener, first: bool) {
     let limit = |n| thousandths(worked.ud.scale, n);
     assert!(worked.ud.lo > limit(FACTOR_ONE_TO) && worked.ud.hi < limit(FACTOR_JUMPS_AT));
     let words = format!("1.47 − 0.723 × ud, {}", at_the_ends("ud", worked.ud));
-    steps.by_rule(FACTOR, "χ", &words, worked.chi);
-    steps.alias(FACTORS[i], "χ");
+    let new = if first { "χ" } else { "new χ" };
+    steps.by_rule(FACTOR, new, &words, worked.chi_new);
+    if !first {
+        steps.alias("old χ", FACTORS[i]);
+        let old = from_step(steps, "old χ");
+        let formula = format!("the smaller of new χ and old χ, {old}");
+        steps.symbol(ROUNDS, "χ", &formula).is(worked.chi);
+    }
 }

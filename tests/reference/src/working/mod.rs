@@ -39,7 +39,7 @@ impl Lengths {
 }
 
 /// Slenderness of a plane and the part of its width that counts.
-#[derive(Clone, Copy, Debug)]
+#[derive(Clone, Copy, Debug, PartialEq, Eq)]
 pub struct Plane {
     pub u2: Pair,
     pub u: Pair,
@@ -107,20 +107,34 @@ impl Working {
         let lip_ratios = bp.map(|bp| LipRatio::of(cp, bp));
         let lip_u2 = lip_ratios.map(|lip| slenderness_squared(cp, t, fyb, lip.k));
         let rounds = all_rounds(&lengths, flange_u2, lip_u2, sheet.rounds);
+        Working::of_rounds(lengths, web, lip_ratios, rounds)
+    }
 
-        let parts = Parts::effective(hp, web, &rounds);
+    /// What follows from the rounds.
+    fn of_rounds(
+        lengths: Lengths,
+        web: Plane,
+        lip_ratios: [LipRatio; 2],
+        rounds: Vec<Round>,
+    ) -> Working {
+        let parts = Parts::effective(lengths.hp, web, &rounds);
         let (effective, gross) = (parts.axis(), Parts::full(&lengths).axis());
         Working {
-            scale,
+            scale: lengths.t.scale,
             lengths,
             web,
             lip_ratios,
             rounds,
             parts,
             effective,
-            area: t * effective.length,
+            area: lengths.t * effective.length,
             gross,
             shift: effective.z - gross.z,
         }
+    }
+
+    /// The same section with other rounds.
+    pub fn with_rounds(&self, rounds: Vec<Round>) -> Working {
+        Working::of_rounds(self.lengths, self.web, self.lip_ratios, rounds)
     }
 }

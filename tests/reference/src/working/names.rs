@@ -74,6 +74,7 @@ impl Names {
         self.both(before.clone() + "kf", round, |s| s.kf);
         self.both(before.clone() + "D", round, |s| s.d);
         self.both(before.clone() + "ud", round, |s| s.ud);
+        self.both(before.clone() + "new chi", round, |s| s.chi_new);
         self.both(before + "chi", round, |s| s.chi);
     }
 }

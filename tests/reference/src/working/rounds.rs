@@ -5,7 +5,7 @@ use crate::pair::Pair;
 use crate::rules::{thickness_factor, OUTSTAND, SUPPORTED};
 
 /// The stiffener of one flange in one round.
-#[derive(Clone, Copy, Debug)]
+#[derive(Clone, Copy, Debug, PartialEq, Eq)]
 pub struct Stiffener {
     pub flange: Plane,
     pub lip: Plane,
@@ -18,11 +18,14 @@ pub struct Stiffener {
     pub kf: Pair,
     pub d: Pair,
     pub ud: Pair,
+    /// χ of this round's ud.
+    pub chi_new: Pair,
+    /// χ of the round: in a refining round the smaller of the new and the old one.
     pub chi: Pair,
 }
 
 /// Both flanges in one round; round 0 is the first working.
-#[derive(Clone, Copy, Debug)]
+#[derive(Clone, Copy, Debug, PartialEq, Eq)]
 pub struct Round {
     pub stiffeners: [Stiffener; 2],
 }
@@ -77,6 +80,7 @@ impl Widths {
         let d = g * g * hp + g * g * g + s.exact(1, 2) * g * o * hp * kf;
         let fourth = d / j * big_t * big_t * s.exact(91, 100) / s.whole(1_000_000);
         let ud = fourth.root().root();
+        let chi_new = thickness_factor(ud);
         Stiffener {
             flange: self.flange,
             lip: self.lip,
@@ -89,13 +93,14 @@ impl Widths {
             kf,
             d,
             ud,
-            chi: thickness_factor(ud),
+            chi_new,
+            chi: chi_new,
         }
     }
 }
 
 impl Round {
-    /// One round from u² of both flanges and of both lips.
+    /// One round from u² of both flanges and of both lips, with its new χ.
     fn of(lengths: &Lengths, flange_u2: [Pair; 2], lip_u2: [Pair; 2]) -> Round {
         let widths = [0, 1].map(|i| {
             let flange = Plane::of(flange_u2[i], SUPPORTED);
@@ -105,22 +110,38 @@ impl Round {
         let stiffeners = [0, 1].map(|i| widths[i].stiffener(lengths, &widths[1 - i]));
         Round { stiffeners }
     }
+
+    /// The round behind this one, with its new χ: it multiplies u² of the first round by
+    /// its own flange's χ of this one.
+    pub fn next(&self, lengths: &Lengths, first: &Round) -> Round {
+        let times_chi = |u2: fn(&Stiffener) -> Pair| {
+            [0, 1].map(|i| u2(&first.stiffeners[i]) * self.stiffeners[i].chi)
+        };
+        Round::of(lengths, times_chi(|s| s.flange.u2), times_chi(|s| s.lip.u2))
+    }
+
+    /// Each flange's χ is the smaller of the new one and that of the round before, end by
+    /// end; all else is of the new round (W-205).
+    fn not_above(mut self, before: &Round) -> Round {
+        for (new, old) in self.stiffeners.iter_mut().zip(&before.stiffeners) {
+            new.chi = new.chi_new.smaller(old.chi);
+        }
+        self
+    }
 }
 
-/// Round 0 and the refining rounds. A refining round multiplies the first u²
-/// by its own flange's χ of the round before.
+/// Round 0 and the refining rounds.
 pub(super) fn all_rounds(
     lengths: &Lengths,
     flange_u2: [Pair; 2],
     lip_u2: [Pair; 2],
     refining: u64,
 ) -> Vec<Round> {
-    let mut rounds = vec![Round::of(lengths, flange_u2, lip_u2)];
+    let first = Round::of(lengths, flange_u2, lip_u2);
+    let mut rounds = vec![first];
     for _ in 0..refining {
-        let chi = rounds[rounds.len() - 1].stiffeners.map(|s| s.chi);
-        let flange = [0, 1].map(|i| flange_u2[i] * chi[i]);
-        let lip = [0, 1].map(|i| lip_u2[i] * chi[i]);
-        rounds.push(Round::of(lengths, flange, lip));
+        let before = rounds[rounds.len() - 1];
+        rounds.push(before.next(lengths, &first).not_above(&before));
     }
     rounds
 }

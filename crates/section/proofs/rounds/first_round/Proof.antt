@@ -1,10 +1,10 @@
 -- `section::rounds::first_round` meets its contract.
-use mathlib.Core.Path.{refl, sym, ap, ap₂, _∙_}
+use mathlib.Core.Path.{refl, ap, ap₂, _∙_}
 use Rattle.pair.specs.declared.Pair.{Pair}
-use Rattle.section.specs.Working.{whole, round, rounds}
+use Rattle.section.specs.Working.{whole, stiffener-of, refined-flange, round, rounds}
 use Rattle.section.specs.Parts.{factors}
 use Rattle.section.specs.Room.{RoundRoom}
-use Rattle.section.proofs.RoundForms.{one-room, one-factor, equal-stiffener, round-factors}
+use Rattle.section.proofs.RoundForms.{one-room, one-factor, equal-stiffener, first-factors}
 use borrow.Author.Needs.{needs}
 use Rattle.section.proofs.rounds.first_round.Statement.{statement}
 use Rattle.section.proofs.rounds.first_round.Tie as tie
@@ -36,15 +36,16 @@ factors-of-requires c κs =
     rw (c .second-stiffener .ensures, c .before .before .stiffener-of .ensures, ratio .ratio .ensures) (room (ratio .before) .rest)
 
 returns : tie.Need-returns
-unfolding rounds
+unfolding rounds round refined-flange
 returns c =
     let ratio = c .before .before .before .before in
     let n = ratio .before .args .n in
     let x = ratio .before .args .x in
+    let stiffener = stiffener-of n (x .common .cp) in
     c .factors-of .ensures
     ∙ ap₂ (factors n (x .common) (x .one .bp) (x .two .bp)) (c .before .before .before .stiffener-of .ensures) (c .before .second-stiffener .ensures)
-    ∙ sym (round-factors n x _ _)
-    ∙ ap (λ (χ : Pair). round n x χ χ) (ratio .ratio .ensures)
+    ∙ ap (λ (χ : Pair). factors n (x .common) (x .one .bp) (x .two .bp) (stiffener (x .one) χ) (stiffener (x .two) χ)) (ratio .ratio .ensures)
+    ∙ first-factors n x (ratio .before .pre .fine .some)
 
 pub first-round-spec : {M : Type 1} → statement M
 first-round-spec =

@@ -6,7 +6,7 @@ use native.Mathlib.Omega.{arith}
 use Rattle.section.specs.declared.Round.{Round}
 use Rattle.section.specs.Working.{rounds}
 use Rattle.section.specs.Room.{FactorsMost}
-use Rattle.section.proofs.RoundForms.{factors-most, next-round, settled, own-stiffeners}
+use Rattle.section.proofs.RoundForms.{factors-most, next-round, settled, at-most-own}
 use Rattle.section.proofs.SamePairs.{same-ends}
 use borrow.Author.Needs.{needs}
 use Rattle.section.proofs.rounds.refined.Statement.{statement}
@@ -25,7 +25,7 @@ loop-holds c = (omega arith, c .pre .1, rw (c .pre .1) (factors-most (c .pre .0)
 next-round-requires : tie.Need-next-round-requires Inv-loop μ-loop
 next-round-requires c κs =
     let loop = c .before .before .before .loop in
-    (c .before .before .before .before .pre .0 .room _ _ (loop .inv .2 .one) (loop .inv .2 .two), own-stiffeners _ _ (loop .i) (loop .inv .1))
+    (c .before .before .before .before .pre .0 .room _ _ (loop .inv .2 .one) (loop .inv .2 .two), at-most-own _ _ (loop .i) (loop .inv .1))
 
 same-requires : tie.Need-same-requires Inv-loop μ-loop
 same-requires c κs = search needs
