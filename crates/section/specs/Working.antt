@@ -1,4 +1,5 @@
--- The working of a section, in document 01's order and with its symbols, one definition for each formula, as document 02 amends it (W-201: kf; W-204: the scale; W-205: the smaller χ).
+-- The working of a section, in document 01's order and with its symbols, one definition for each formula, as document 02 amends it
+-- (W-201: kf; W-204: the scale; W-205: the smaller χ).
 -- docs/WORKING.md has the same in words; the numbers in brackets are its sections.
 -- n is the fineness: the scale S is n × 1,000,000. At a sheet's own n (`fineness` of specs/Sheets) this is its working, and at m × n the same paper with S
 -- replaced by m × S.
