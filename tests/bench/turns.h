@@ -4,7 +4,7 @@
 #include "timing.h"
 #include <string.h>
 
-enum { PLACES = 5, TURNS = 41, MOST_GROUPS = 5, MOST_RUNS = MOST_GROUPS * PLACES };
+enum { PLACES = 5, TURNS = 41, MOST_GROUPS = 5, MOST_RUNS = MOST_GROUPS * PLACES, MOST_JOBS = 2 };
 
 // A macro for each place, with the ending that placed.sh gives to names there.
 #define AT_PLACES(EACH, NAME) EACH(NAME, _0) EACH(NAME, _1) EACH(NAME, _2) EACH(NAME, _3) EACH(NAME, _4)
@@ -12,10 +12,17 @@ enum { PLACES = 5, TURNS = 41, MOST_GROUPS = 5, MOST_RUNS = MOST_GROUPS * PLACES
 // One pass of a run over the work.
 typedef void Pass(int run, const void *work);
 
-// ns of each run, the median of its turns; and of group 0's ratio to each group, turn by turn, the median.
+// Some work, of so many units for which a time is given.
+typedef struct {
+    const void *work;
+    int units;
+} Job;
+
+// ns of each run, the median of its turns; of group 0's ratio to each group, turn by turn, the median; and the
+// same of that ratio to the first job's.
 typedef struct {
     int runs;
-    double ns[MOST_RUNS], ratio[MOST_GROUPS];
+    double ns[MOST_RUNS], ratio[MOST_GROUPS], to_first[MOST_GROUPS];
 } Times;
 
 typedef struct { double least, most; } Spread;
@@ -64,23 +71,38 @@ static inline Spread spread_of(const Times *t, int group) {
     return spread;
 }
 
-// Times every run, in ns for one of the units that a pass has. A turn goes through the runs forward, the next
-// one backward.
-static inline Times measured(Pass *pass, int runs, const void *work, int units) {
-    static double ns[MOST_RUNS][TURNS], ratios[MOST_GROUPS][TURNS];
-    int passes[MOST_RUNS];
-    Times t = {.runs = runs};
-    for (int run = 0; run < runs; run++) passes[run] = 1 + (int)(1e6 / timed(pass, run, work, 3));
+// Times every run on each of the jobs, in ns for one unit. A turn goes through the runs forward, the next one
+// backward, and every run does all jobs, one behind the other.
+static inline void measured_beside(Pass *pass, int runs, const Job *jobs, int count, Times *times) {
+    static double ns[MOST_JOBS][MOST_RUNS][TURNS], ratios[MOST_JOBS][MOST_GROUPS][TURNS], to_first[MOST_GROUPS][TURNS];
+    int passes[MOST_JOBS][MOST_RUNS];
+    for (int j = 0; j < count; j++)
+        for (int run = 0; run < runs; run++) passes[j][run] = 1 + (int)(1e6 / timed(pass, run, jobs[j].work, 3));
     for (int turn = 0; turn < TURNS; turn++) {
-        double now[MOST_RUNS];
+        double now[MOST_JOBS][MOST_RUNS];
         for (int i = 0; i < runs; i++) {
             int run = turn % 2 ? runs - 1 - i : i;
-            now[run] = ns[run][turn] = timed(pass, run, work, passes[run]) / units;
+            for (int j = 0; j < count; j++)
+                now[j][run] = ns[j][run][turn] = timed(pass, run, jobs[j].work, passes[j][run]) / jobs[j].units;
         }
-        for (int g = 0; g < groups_of(runs); g++)
-            ratios[g][turn] = over_places(now, 0, runs) / over_places(now, g, runs);
+        for (int j = 0; j < count; j++)
+            for (int g = 0; g < groups_of(runs); g++)
+                ratios[j][g][turn] = over_places(now[j], 0, runs) / over_places(now[j], g, runs);
     }
-    for (int run = 0; run < runs; run++) t.ns[run] = median(ns[run], TURNS);
-    for (int g = 0; g < groups_of(runs); g++) t.ratio[g] = median(ratios[g], TURNS);
+    for (int j = 0; j < count; j++) {
+        Times *t = &times[j];
+        t->runs = runs;
+        for (int run = 0; run < runs; run++) t->ns[run] = median(ns[j][run], TURNS);
+        for (int g = 0; g < groups_of(runs); g++) {
+            for (int turn = 0; turn < TURNS; turn++) to_first[g][turn] = ratios[j][g][turn] / ratios[0][g][turn];
+            t->ratio[g] = median(ratios[j][g], TURNS);
+            t->to_first[g] = median(to_first[g], TURNS);
+        }
+    }
+}
+
+static inline Times measured(Pass *pass, int runs, const void *work, int units) {
+    Times t;
+    measured_beside(pass, runs, &(Job){work, units}, 1, &t);
     return t;
 }
