@@ -178,10 +178,12 @@ static Work *sheet_b_alone(u64 fine) {
 static Work *from_text(u64 fine) { return on_texts("from text, rounds=3", fine, WRITE); }
 static Work *checked(u64 fine) { return on_texts("check, rounds=3", fine, CHECK); }
 
-// Every line in its turn is out of range.
+// Every line in its turn is out of range, by the same values at both scales.
 static Work *refused_at_question_2(u64 fine) {
     Work *w = on_numbers("refusal at question 2", fine, 3, 1000);
+    u64 before = state;
     for (int i = 0; i < SHEETS; i++) w->sheets[i] = out_of_range(w->sheets[i], i % SHEET_LINES);
+    state = before;
     return w;
 }
 
@@ -256,7 +258,7 @@ static void times(void) {
     printf("%d accepted sheets over the whole ranges, both forms, half of them with equal flanges. One buffer of %d bytes is\n"
            "lent to all calls and not cleared between them. ns for one call: the median of %d interleaved turns, then of %d\n"
            "places of the code in memory; behind it the ratio of this program to that version. In every turn a version works\n"
-           "with fine=1 and behind it with fine=10.\n\n",
+           "at both scales, fine=1 first in one turn and fine=10 first in the next.\n\n",
            SHEETS, ROOM, TURNS, PLACES);
     print_head(&columns);
     for (int i = 0; i < ROWS; i++) measured_rows[i] = measure(rows[i]);

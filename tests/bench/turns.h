@@ -71,8 +71,8 @@ static inline Spread spread_of(const Times *t, int group) {
     return spread;
 }
 
-// Times every run on each of the jobs, in ns for one unit. A turn goes through the runs forward, the next one
-// backward, and every run does all jobs, one behind the other.
+// Times every run on each of the jobs, in ns for one unit. Every run does all jobs, one behind the other. A turn
+// goes through runs and jobs forward, the next one backward, so that no job always comes behind another.
 static inline void measured_beside(Pass *pass, int runs, const Job *jobs, int count, Times *times) {
     static double ns[MOST_JOBS][MOST_RUNS][TURNS], ratios[MOST_JOBS][MOST_GROUPS][TURNS], to_first[MOST_GROUPS][TURNS];
     int passes[MOST_JOBS][MOST_RUNS];
@@ -82,8 +82,10 @@ static inline void measured_beside(Pass *pass, int runs, const Job *jobs, int co
         double now[MOST_JOBS][MOST_RUNS];
         for (int i = 0; i < runs; i++) {
             int run = turn % 2 ? runs - 1 - i : i;
-            for (int j = 0; j < count; j++)
+            for (int k = 0; k < count; k++) {
+                int j = turn % 2 ? count - 1 - k : k;
                 now[j][run] = ns[j][run][turn] = timed(pass, run, jobs[j].work, passes[j][run]) / jobs[j].units;
+            }
         }
         for (int j = 0; j < count; j++)
             for (int g = 0; g < groups_of(runs); g++)
