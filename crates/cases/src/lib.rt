@@ -1,5 +1,7 @@
 // What the programs that run cases share: the lines of standard input, the words of a line, and how
 // results are printed.
+#![tactic(auto)]
+
 pub mod print;
 
 ghost use Rattle.std.specs.Prelude.{◌≡◌, ◌≤◌, length};
@@ -7,7 +9,7 @@ ghost use Rattle.std.specs.Prelude.{◌≡◌, ◌≤◌, length};
 use pair::signed::Integer;
 
 // A word's number as far as it is read, with the blanks that stand before the word yet.
-#[derive(Drop)]
+#[derive(Clone, Copy)]
 struct Word {
     blanks: u64,
     below: bool,

@@ -8,7 +8,7 @@ use section::SHEET_LINES;
 
 // The lines of some bytes: newlines, counted up to one more than a full catalogue has, and whether
 // bytes stand behind the last.
-#[derive(Drop)]
+#[derive(Clone, Copy)]
 pub struct LineCount {
     pub newlines: usize,
     pub unended: bool,

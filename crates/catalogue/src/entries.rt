@@ -12,7 +12,7 @@ use section::SHEET_LINES;
 
 // How the loop ends: at the first sheet that fails the first question, or with so many numbers in the
 // array of rows.
-#[derive(Drop)]
+#[derive(Clone, Copy)]
 pub enum Entered {
     Stopped(u64),
     Rows(usize),

@@ -12,7 +12,7 @@ use section::Sheet;
 
 // The number that writing its certificate answers, room given: 0 where it is accepted, and then its
 // figures.
-#[derive(Drop)]
+#[derive(Clone, Copy)]
 pub struct Judged {
     pub number: u64,
     pub area: u64,

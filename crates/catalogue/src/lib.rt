@@ -1,4 +1,6 @@
 // A report on a catalogue, which is sheets joined end to end. (docs/WORKING.md, 15.1.)
+#![tactic(auto)]
+
 pub mod counting;
 mod entries;
 mod judging;
@@ -29,7 +31,7 @@ const COLUMNS: usize = 3;
 const SUMMARY: usize = 14;
 
 // Why there is no report.
-#[derive(Drop)]
+#[derive(Clone, Copy)]
 pub enum ReportRefusal {
     // 14: there are no sheets, or over 1,000
     SheetCount,

@@ -1,5 +1,7 @@
 // Reading a sheet, the questions on it, writing and checking its certificate. (docs/WORKING.md, 14
 // and 15.)
+#![tactic(auto)]
+
 pub mod certificates;
 mod keys;
 pub mod reading;
@@ -29,7 +31,7 @@ const ZERO: Integer = Integer {
 
 // Why a sheet, or a certificate, is refused: a case for each question, with the line or the
 // length that varies.
-#[derive(Drop)]
+#[derive(Clone, Copy)]
 pub enum Refusal {
     // 1: a line is missing or misspelt
     Spelling(u64),
@@ -60,21 +62,21 @@ pub enum Refusal {
 }
 
 // What bytes are read as: a sheet, or their first bad line, counted from 1.
-#[derive(Drop)]
+#[derive(Clone, Copy)]
 pub enum ReadSheet {
     Shown(Sheet),
     BadLine(u64),
 }
 
 // What questions find.
-#[derive(Drop)]
+#[derive(Clone, Copy)]
 pub enum Found {
     Unmet(Refusal),
     Met,
 }
 
 // What a sheet gives before anything is written.
-#[derive(Drop)]
+#[derive(Clone, Copy)]
 pub enum Verdict {
     Refused(Refusal),
     Accepted(Figures),

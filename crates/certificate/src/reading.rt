@@ -14,7 +14,7 @@ use pair::signed::Integer;
 use section::{SHEET_LINES, Sheet, sheets};
 
 // Whether all lines are right; if not, which is the first bad one, counted from 1.
-#[derive(Drop)]
+#[derive(Clone, Copy)]
 pub enum Spelling {
     Right,
     BadLine(usize),
@@ -22,7 +22,7 @@ pub enum Spelling {
 
 // The values in their order where all lines are right; zeros stand behind them, and everywhere beside
 // a bad line.
-#[derive(Drop)]
+#[derive(Clone, Copy)]
 pub struct Lines {
     pub spelling: Spelling,
     pub values: [Integer; CERTIFICATE_LINES],

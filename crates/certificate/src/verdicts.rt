@@ -12,7 +12,7 @@ use crate::{Found, Refusal, Verdict};
 use section::{SHEET_LINES, Sheet, sections, sheets};
 
 // What a value may be: from the first number to the second, both included, or one of the two.
-#[derive(Drop)]
+#[derive(Clone, Copy)]
 enum Span {
     Upto(u64, u64),
     OneOf(u64, u64),

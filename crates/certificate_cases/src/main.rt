@@ -3,6 +3,8 @@
 // length that are answered; of a sheet that is accepted also the certificate, and what a buffer of
 // just its length and one of a byte less answer. tests/certificate_cases.sh has the reference write
 // the files and what is to be printed.
+#![tactic(auto)]
+
 ghost use Rattle.std.specs.Prelude.{◌≤◌, length};
 
 use certificate::{LONGEST_CERTIFICATE, certificates};

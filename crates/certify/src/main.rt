@@ -1,5 +1,7 @@
 // Reads a sheet from standard input and prints its certificate, or the refusal's number and line
 // (`certify_prints` of crates/report/specs/Printed.antt).
+#![tactic(auto)]
+
 use certificate::LONGEST_CERTIFICATE;
 use report::streams::Input;
 use report::{printing, streams};

@@ -1,4 +1,6 @@
 // The calls for programs in other languages; include/honemagenta.h declares them.
+#![tactic(auto)]
+
 ghost use Rattle.std.specs.Prelude.{◌≡◌, [], ◌∷◌};
 ghost use Rattle.section.specs.Sheets.{sheet_of};
 ghost use Rattle.certificate.specs.Outcome.{outcome_of, outcome, check_outcome};

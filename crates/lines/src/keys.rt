@@ -2,7 +2,7 @@
 
 // What stands behind a key: one of two letters, for 0 and for 1; a number; a number that may have a
 // minus.
-#[derive(Drop)]
+#[derive(Clone, Copy)]
 pub enum Kind {
     Letter(u8, u8),
     Number,
@@ -11,7 +11,7 @@ pub enum Kind {
 
 // A key with its '=', filled up with zeros to one length for all, how long it is, and the kind of its
 // value.
-#[derive(Drop)]
+#[derive(Clone, Copy)]
 pub struct Key {
     pub text: [u8; 8],
     pub length: usize,

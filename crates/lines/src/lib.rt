@@ -2,6 +2,8 @@
 // written straight into a lent part of a buffer and read back; bytes split into lines. A crate above
 // holds its table as an array of rows (`keys::Key`) and has the loop over it, whose proof stands on
 // proofs/Laws. specs/Texts says which text lines are, specs/Reading what reading them gives.
+#![tactic(auto)]
+
 pub mod decimal;
 pub mod keys;
 pub mod reading;

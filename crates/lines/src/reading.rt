@@ -12,7 +12,7 @@ use crate::writing;
 use pair::signed::Integer;
 
 // What stands at a place: a value and the place behind its newline, or nothing that is right.
-#[derive(Drop)]
+#[derive(Clone, Copy)]
 pub enum Line {
     Got(Integer, usize),
     Bad,

@@ -1,7 +1,7 @@
 // A case as far as it is read: its letter, and so many hexadecimal digits of its bytes.
 ghost use Rattle.std.specs.Prelude.{◌<◌, ◌≤◌};
 
-#[derive(Drop)]
+#[derive(Clone, Copy)]
 pub struct Case {
     pub begun: bool,
     pub letter: u8,

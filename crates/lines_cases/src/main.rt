@@ -3,6 +3,8 @@
 // from its row, its sign and its size; d: numbers in a row; f: a number in so many digits; g: so many
 // digits are read; s: the places where lines end. What is written stands with its length between two
 // points that have to stay. tests/lines_cases.py writes the cases and what is to be printed.
+#![tactic(auto)]
+
 mod commands;
 mod hexadecimal;
 mod table;

@@ -47,14 +47,14 @@ const ZERO: Integer = Integer {
 };
 
 // Whether all lines are right; if not, which is the first bad one, counted from 1.
-#[derive(Drop)]
+#[derive(Clone, Copy)]
 pub enum Verdict {
     Right,
     BadLine(usize),
 }
 
 // The verdict, with the values where all lines are right, and zeros beside a bad line.
-#[derive(Drop)]
+#[derive(Clone, Copy)]
 pub struct Lines {
     pub verdict: Verdict,
     pub values: [Integer; COUNT],

@@ -53,7 +53,7 @@ const UPPER: [u32; ENTRIES] = [
 ];
 
 // The table by columns.
-#[derive(Drop)]
+#[derive(Clone, Copy)]
 pub struct Columns {
     pub lower: [u32; ENTRIES],
     pub upper: [u32; ENTRIES],

@@ -1,4 +1,6 @@
 // The table of lip coefficients for the wall, and a quick lookup in it. (docs/WORKING.md, 15.2.)
+#![tactic(auto)]
+
 mod entries;
 pub mod lookups;
 mod refusals;
@@ -17,7 +19,7 @@ const ENTRIES: usize = 251;
 pub const TABLE_LENGTH: usize = 3_514;
 
 // Why no coefficient is told, or no table written.
-#[derive(Drop)]
+#[derive(Clone, Copy)]
 pub enum LipRefusal {
     // 16: the ratio is outside 0.350 to 0.600
     Ratio,
@@ -28,7 +30,7 @@ pub enum LipRefusal {
 // What a lookup answers: the refusal's number or 0, a line, a length (both always 0), and the ends in
 // millionths.
 #[repr(C)]
-#[derive(Drop)]
+#[derive(Clone, Copy)]
 pub struct Coefficient {
     pub refusal: u64,
     pub line: u64,

@@ -1,5 +1,7 @@
 // Values as pairs of whole numbers, a lower and an upper end, in units of 1/s, s being the scale.
 // (docs/WORKING.md, 3.)
+#![tactic(auto)]
+
 mod guesses;
 pub mod roots;
 pub mod signed;
@@ -10,7 +12,7 @@ ghost use Rattle.pair.specs.Pairs.{exact, ratio, plus, minus, times, over, root,
 ghost use Rattle.pair.specs.Fits.{ratio_fits, plus_fits, minus_fits, times_fits, over_fits, times_ratio_fits, over_ratio_fits, root_fits, cube_root_fits};
 
 #[repr(C)]
-#[derive(Drop)]
+#[derive(Clone, Copy)]
 pub struct Pair {
     pub lo: u64,
     pub hi: u64,
@@ -18,7 +20,7 @@ pub struct Pair {
 
 // Two pairs, worked side by side.
 #[repr(C)]
-#[derive(Drop)]
+#[derive(Clone, Copy)]
 pub struct TwoPairs {
     pub one: Pair,
     pub two: Pair,

@@ -7,14 +7,14 @@ ghost use Rattle.pair.specs.Remainders.{SquareRooted, CubeRooted};
 use crate::{guesses, wide};
 
 // A square root with what is left over.
-#[derive(Drop)]
+#[derive(Clone, Copy)]
 pub struct Square {
     pub root: u64,
     pub rest: u64,
 }
 
 // A cube root with what is left over, and three times the root's square.
-#[derive(Drop)]
+#[derive(Clone, Copy)]
 pub struct Cube {
     pub root: u64,
     pub triple: u64,
@@ -36,7 +36,7 @@ pub fn square_step(t: Square, digit: u64) -> Square
 }
 
 // Two square roots.
-#[derive(Drop)]
+#[derive(Clone, Copy)]
 pub struct Squares {
     pub one: Square,
     pub two: Square,

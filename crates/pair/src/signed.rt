@@ -13,7 +13,7 @@ ghost use Rattle.pair.specs.Fits.{signed_plus_fits, signed_times_fits, signed_ov
 use crate::{Pair, wide};
 
 #[repr(C)]
-#[derive(Drop)]
+#[derive(Clone, Copy)]
 pub struct Integer {
     pub below: bool,
     pub size: u64,
@@ -21,7 +21,7 @@ pub struct Integer {
 
 // A lower and an upper end, in units of 1/s.
 #[repr(C)]
-#[derive(Drop)]
+#[derive(Clone, Copy)]
 pub struct Signed {
     pub lo: Integer,
     pub hi: Integer,

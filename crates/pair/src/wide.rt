@@ -4,7 +4,7 @@ ghost use Rattle.pair.specs.Rounding.{ceil_div};
 ghost use Rattle.pair.specs.Remainders.{Split};
 
 // A quotient with its remainder.
-#[derive(Drop)]
+#[derive(Clone, Copy)]
 pub struct Divided {
     pub quotient: u64,
     pub rest: u64,

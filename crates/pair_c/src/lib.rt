@@ -1,5 +1,7 @@
 // The operations of crate pair as C functions: for random tests from outside (tests/outside) and for
 // timing them beside plain C (tests/bench). Each asks what the operation itself asks.
+#![tactic(auto)]
+
 pub mod signed;
 
 ghost use Rattle.std.specs.Prelude.{◌≡◌, true, ◌*◌, ◌/◌, ◌^◌, ◌<◌};
@@ -12,7 +14,7 @@ use pair::{Pair, TwoPairs, roots, wide};
 
 // A quotient or a root with what is left over.
 #[repr(C)]
-#[derive(Drop)]
+#[derive(Clone, Copy)]
 pub struct Part {
     pub whole: u64,
     pub rest: u64,

@@ -1,6 +1,8 @@
 // Runs the operations of crate pair on the cases of standard input, one to a line: a letter, then the
 // operands in decimal, each after a blank. Prints the operation's name and its result, or that the
 // operation does not apply. tests/pair_cases.py writes the cases and what is to be printed.
+#![tactic(auto)]
+
 mod integers;
 mod pairs;
 mod print;
@@ -9,7 +11,7 @@ mod whole;
 use pair::signed::Integer;
 
 // A case's numbers, in their order.
-#[derive(Drop)]
+#[derive(Clone, Copy)]
 struct Operands {
     a: Integer,
     b: Integer,

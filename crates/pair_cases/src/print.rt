@@ -4,7 +4,7 @@ use pair::signed::{Integer, Signed};
 use pair::{Pair, TwoPairs, wide};
 
 // What an operation gave.
-#[derive(Drop)]
+#[derive(Clone, Copy)]
 pub enum Outcome {
     NotApplied,
     Truth(bool),

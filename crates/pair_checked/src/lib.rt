@@ -1,5 +1,7 @@
 // Whether an operation of crate pair applies to its operands, tested as the program runs: each test
 // is the one that the operation's contract asks for.
+#![tactic(auto)]
+
 ghost use Rattle.std.specs.Prelude.{◌≡◌, ◌&&◌, ◌+◌, ◌*◌, ◌/◌, ◌%◌, ◌<◌, ltb};
 ghost use Rattle.pair.specs.Rounding.{ceil_div};
 ghost use Rattle.pair.specs.SignedPairs.{signed, reach};

@@ -1,10 +1,12 @@
 // Questions asked in order over any kind of refusal: the first "no" decides. Definitions and laws stand
 // in specs/ and proofs/; here is what every call answers.
+#![tactic(auto)]
+
 pub mod answers;
 
 // What a call answers: the refusal's number or 0, a line, a length.
 #[repr(C)]
-#[derive(Drop)]
+#[derive(Clone, Copy)]
 pub struct Answer {
     pub refusal: u64,
     pub line: u64,

@@ -1,3 +1,5 @@
 // What the programs print, and how they read and write.
+#![tactic(auto)]
+
 pub mod printing;
 pub mod streams;

@@ -8,7 +8,7 @@ use certificate::{LONGEST_CERTIFICATE, LONGEST_SHEET};
 use libc::{STDERR_FILENO, STDIN_FILENO, STDOUT_FILENO};
 
 // What reading gives: so many bytes, or that a read failed.
-#[derive(Drop)]
+#[derive(Clone, Copy)]
 pub enum Input {
     Bytes(usize),
     Failed,

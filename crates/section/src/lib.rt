@@ -1,4 +1,6 @@
 // The working of a section. (docs/WORKING.md.)
+#![tactic(auto)]
+
 pub mod coefficients;
 pub mod factors;
 pub mod moments;
@@ -13,17 +15,17 @@ use pair::signed::{Integer, Signed};
 
 // The nominal thickness, with its coating, and the core thickness, in 0.01 mm. Neither is taken
 // for the other.
-#[derive(Drop)]
+#[derive(Clone, Copy)]
 pub struct Nominal(pub u64);
 
-#[derive(Drop)]
+#[derive(Clone, Copy)]
 pub struct Core(pub u64);
 
 // How many numbers a sheet has: one for each of its lines.
 pub const SHEET_LINES: usize = 13;
 
 // The numbers of a sheet, lengths in 0.01 mm.
-#[derive(Drop)]
+#[derive(Clone, Copy)]
 pub struct Sheet {
     pub form: u64,
     pub h: u64,
@@ -41,7 +43,7 @@ pub struct Sheet {
 }
 
 // A flange with its lip: its mid-line width, and u² of flange and lip at full thickness.
-#[derive(Drop)]
+#[derive(Clone, Copy)]
 pub struct Flange {
     pub bp: Pair,
     pub plane: Pair,
@@ -50,7 +52,7 @@ pub struct Flange {
 
 // What both flanges of a section have in common: the core thickness, the yield strength, and the
 // mid-line lengths of web and lips.
-#[derive(Drop)]
+#[derive(Clone, Copy)]
 pub struct Common {
     pub t: Core,
     pub fyb: u64,
@@ -59,7 +61,7 @@ pub struct Common {
 }
 
 // What every round of a section works with.
-#[derive(Drop)]
+#[derive(Clone, Copy)]
 pub struct Member {
     pub common: Common,
     pub one: Flange,
@@ -67,7 +69,7 @@ pub struct Member {
 }
 
 // What counts of a flange at its stiffener: be2, c_eff, and a, their sum.
-#[derive(Drop)]
+#[derive(Clone, Copy)]
 pub struct Stiffener {
     pub be2: Pair,
     pub c: Pair,
@@ -75,21 +77,21 @@ pub struct Stiffener {
 }
 
 // One flange's part of a round: its stiffener and its thickness factor.
-#[derive(Drop)]
+#[derive(Clone, Copy)]
 pub struct RefinedFlange {
     pub stiffener: Stiffener,
     pub chi: Pair,
 }
 
 // What a round gives, of flange 1 and of flange 2.
-#[derive(Drop)]
+#[derive(Clone, Copy)]
 pub struct Round {
     pub one: RefinedFlange,
     pub two: RefinedFlange,
 }
 
 // What counts of a flange: be1, its stiffener and its thickness factor.
-#[derive(Drop)]
+#[derive(Clone, Copy)]
 pub struct EffectiveFlange {
     pub be1: Pair,
     pub stiffener: Stiffener,
@@ -98,7 +100,7 @@ pub struct EffectiveFlange {
 
 // The effective parts of a section: those of both flanges, and the web's, p at flange 1 and m at
 // flange 2.
-#[derive(Drop)]
+#[derive(Clone, Copy)]
 pub struct EffectiveParts {
     pub one: EffectiveFlange,
     pub two: EffectiveFlange,
@@ -107,7 +109,7 @@ pub struct EffectiveParts {
 }
 
 // The mid-line lengths of a sheet.
-#[derive(Drop)]
+#[derive(Clone, Copy)]
 pub struct MidLines {
     pub hp: Pair,
     pub cp: Pair,
@@ -117,7 +119,7 @@ pub struct MidLines {
 
 // What a working gives: the effective area, both thickness factors, the distance of the neutral
 // axis from flange 1 and that of the gross section, and the shift.
-#[derive(Drop)]
+#[derive(Clone, Copy)]
 pub struct Work {
     pub area: Pair,
     pub chi1: Pair,
@@ -129,7 +131,7 @@ pub struct Work {
 
 // The printed figures: area in 0.01 mm², axial in newtons, both factors in thousandths, the ends
 // of the shift in 0.01 mm.
-#[derive(Drop)]
+#[derive(Clone, Copy)]
 pub struct Figures {
     pub area: u64,
     pub axial: u64,

@@ -2,6 +2,8 @@
 // with a blank between. Prints the line of results of each that meets questions 2 to 10, and
 // `refused` with the question and the line for any other. tests/section_cases.sh has the reference
 // write the sections and what is to be printed.
+#![tactic(auto)]
+
 mod print;
 
 ghost use Rattle.section.specs.Sound.{Sound};

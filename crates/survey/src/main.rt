@@ -1,5 +1,7 @@
 // Reads a catalogue from standard input and prints its report, or the refusal's number and line
 // (`survey_prints` of specs/Printed.antt).
+#![tactic(auto)]
+
 mod printing;
 mod reading;
 

@@ -9,7 +9,7 @@ use report::streams;
 use report::streams::Input;
 
 // What counting gives: the lines of all that was read, or that a read failed.
-#[derive(Drop)]
+#[derive(Clone, Copy)]
 pub enum Counted {
     Lines(LineCount),
     Failed,

@@ -1,4 +1,6 @@
 // Prints the table of lip coefficients (`tabulate_prints` of specs/Printed.antt). It reads nothing.
+#![tactic(auto)]
+
 mod printing;
 
 use report::streams;

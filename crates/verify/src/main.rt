@@ -1,5 +1,7 @@
 // Reads a certificate from standard input and prints that it passed, with its length, or the
 // refusal's number and line (`verify_prints` of crates/report/specs/Printed.antt).
+#![tactic(auto)]
+
 use report::printing::LONGEST_REFUSAL;
 use report::streams::Input;
 use report::{printing, streams};
