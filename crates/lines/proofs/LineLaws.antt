@@ -1,9 +1,6 @@
 -- Lines: the letters, their lengths, lines behind others, and one line more behind the first ones, as the code's loops write them.
 use Prim.Native.Nat.{ℕ, zero, suc, ◌+◌, ◌-◌, ◌^◌, ◌≤◌, ◌<◌}
 use mathlib.Core.Bool.{false}
-use denote.Enum.Declared.{tag_of}
-use types.Run.{OneOf}
-use mathlib.Core.Logic.{⊎_elim}
 use mathlib.Core.List.{List, [], ◌∷◌, ◌++◌, map, append_assoc, append-nil}
 use mathlib.Core.Path.{◌≡◌, refl, sym, ap, ◌∙◌}
 use native.Mathlib.Numerals.{add-one}
@@ -23,7 +20,6 @@ use Rattle.questions.specs.Buffers.{over}
 use Rattle.lines.specs.Fields.{Field, field}
 use Rattle.lines.specs.Texts.{letter_of, value_text, line_text, lines_text}
 use Rattle.lines.specs.Forms.{integers}
-use Rattle.lines.specs.contracts.keys.Kind.{the_type}
 use Rattle.lines.proofs.DecimalLaws.{decimal-length}
 use Rattle.lines.proofs.LentParts.{length_snoc, over-set}
 
@@ -59,9 +55,9 @@ unfolding value_text integer_text
 number_line_lem F n e h = omega (arith, line_size F (pos n), ap (λ (k : Kind). length (value_text k (pos n))) e, decimal-length 19 n h)
 
 -- a value that is not a letter: its kind's tag is that of the second or the third variant
-pub other_text : (k : Kind) (v : ℤ) → OneOf (1 ∷ 2 ∷ []) (tag_of the_type k) → value_text k v ≡ integer_text v
+pub other_text : (k : Kind) (v : ℤ) → ((x y : ℕ) → k ≡ Letter x y → ⊥) → value_text k v ≡ integer_text v
 unfolding value_text
-other_text (Letter x y) v h = absurd (⊎_elim (λ e. omega (arith, e)) (λ e. omega (arith, e)) h)
+other_text (Letter x y) v h = absurd (h x y refl)
 other_text Number v h = refl
 other_text Signed v h = refl
 
