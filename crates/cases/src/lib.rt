@@ -45,14 +45,14 @@ pub fn letter(line: &[u8]) -> u8 {
 
 // One decimal digit more. No number of the cases passes 64 bits.
 fn with_digit(size: u64, digit: u8) -> u64 {
-    std::num::wrapping_add_u64(size % 1844674407370955162 * 10, (digit % 16) as u64)
+    (size % 1844674407370955162 * 10).wrapping_add((digit % 16) as u64)
 }
 
 // Behind the word the blanks wrap, and are not 0 again.
 fn with_byte(word: Word, byte: u8) -> Word {
     let mut w = word;
     if byte == b' ' {
-        w.blanks = std::num::wrapping_sub_u64(w.blanks, 1);
+        w.blanks = w.blanks.wrapping_sub(1);
         return w;
     }
     if w.blanks == 0 {

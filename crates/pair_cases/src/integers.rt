@@ -3,6 +3,7 @@ use crate::print::Outcome;
 use crate::{Operands, print};
 use pair::Pair;
 use pair::signed::{Integer, Signed};
+use std::io;
 
 fn integer_plus(x: Integer, y: Integer) -> Outcome {
     if pair_checked::sizes_fit(x, y) {
@@ -54,7 +55,7 @@ fn coarser(a: Signed, k: u64) -> Outcome {
 }
 
 // Integers, and the signed pairs that come of pairs.
-pub fn run(letter: u8, o: Operands) {
+pub fn run(rt: &impl Print, letter: u8, o: Operands) -> io::Result<()> {
     let x = o.a;
     let y = o.b;
     let p = Pair {
@@ -66,17 +67,17 @@ pub fn run(letter: u8, o: Operands) {
         hi: o.d.size,
     };
     match letter {
-        b'F' => print::line(b"of", Outcome::SignedEnds(Signed::of(p))),
-        b'B' => print::line(b"between", Outcome::SignedEnds(Signed::between(p, q))),
-        b'A' => print::line(b"integer_plus", integer_plus(x, y)),
-        b'L' => print::line(b"at_most", Outcome::Truth(x.at_most(y))),
-        b'I' => print::line(b"least", Outcome::Integer(x.least(y))),
-        b'G' => print::line(b"greatest", Outcome::Integer(x.greatest(y))),
-        _ => {}
+        b'F' => print::line(rt, b"of", Outcome::SignedEnds(Signed::of(p))),
+        b'B' => print::line(rt, b"between", Outcome::SignedEnds(Signed::between(p, q))),
+        b'A' => print::line(rt, b"integer_plus", integer_plus(x, y)),
+        b'L' => print::line(rt, b"at_most", Outcome::Truth(x.at_most(y))),
+        b'I' => print::line(rt, b"least", Outcome::Integer(x.least(y))),
+        b'G' => print::line(rt, b"greatest", Outcome::Integer(x.greatest(y))),
+        _ => Ok(()),
     }
 }
 
-pub fn run_signed(letter: u8, o: Operands) {
+pub fn run_signed(rt: &impl Print, letter: u8, o: Operands) -> io::Result<()> {
     let x = o.a;
     let y = o.b;
     let z = o.c;
@@ -89,12 +90,12 @@ pub fn run_signed(letter: u8, o: Operands) {
         hi: w.size,
     };
     match letter {
-        b'P' => print::line(b"signed_plus", plus(a, b)),
-        b'M' => print::line(b"signed_minus", minus(a, b)),
-        b'T' => print::line(b"signed_times", times(a, p, s)),
-        b'X' => print::line(b"times_signed", times_signed(a, b, s)),
-        b'O' => print::line(b"signed_over", over(a, p, s)),
-        b'C' => print::line(b"coarser", coarser(a, z.size)),
-        _ => {}
+        b'P' => print::line(rt, b"signed_plus", plus(a, b)),
+        b'M' => print::line(rt, b"signed_minus", minus(a, b)),
+        b'T' => print::line(rt, b"signed_times", times(a, p, s)),
+        b'X' => print::line(rt, b"times_signed", times_signed(a, b, s)),
+        b'O' => print::line(rt, b"signed_over", over(a, p, s)),
+        b'C' => print::line(rt, b"coarser", coarser(a, z.size)),
+        _ => Ok(()),
     }
 }

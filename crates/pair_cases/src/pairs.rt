@@ -2,6 +2,7 @@
 use crate::print::Outcome;
 use crate::{Operands, print};
 use pair::Pair;
+use std::io;
 
 fn ratio(a: u64, b: u64, s: u64) -> Outcome {
     if pair_checked::ratio_fits(a, b, s) {
@@ -75,7 +76,7 @@ fn cube_root(p: Pair, s: u64) -> Outcome {
     Outcome::NotApplied
 }
 
-pub fn run(letter: u8, o: Operands) {
+pub fn run(rt: &impl Print, letter: u8, o: Operands) -> io::Result<()> {
     let a = o.a.size;
     let b = o.b.size;
     let c = o.c.size;
@@ -84,18 +85,18 @@ pub fn run(letter: u8, o: Operands) {
     let p = Pair { lo: a, hi: b };
     let q = Pair { lo: c, hi: d };
     match letter {
-        b'e' => print::line(b"exact", Outcome::Ends(Pair::exact(a))),
-        b'v' => print::line(b"ratio", ratio(a, b, c)),
-        b'p' => print::line(b"plus", plus(p, q)),
-        b'm' => print::line(b"minus", minus(p, q)),
-        b't' => print::line(b"times", times(p, q, s)),
-        b'o' => print::line(b"over", over(p, q, s)),
-        b'x' => print::line(b"times_ratio", times_ratio(p, c, d, s)),
-        b'y' => print::line(b"over_ratio", over_ratio(p, c, d, s)),
-        b'r' => print::line(b"root", root(p, c)),
-        b'R' => print::line(b"roots", roots(p, q, s)),
-        b'c' => print::line(b"cube_root", cube_root(p, c)),
-        b'i' => print::line(b"smaller", Outcome::Ends(p.smaller(q))),
-        _ => {}
+        b'e' => print::line(rt, b"exact", Outcome::Ends(Pair::exact(a))),
+        b'v' => print::line(rt, b"ratio", ratio(a, b, c)),
+        b'p' => print::line(rt, b"plus", plus(p, q)),
+        b'm' => print::line(rt, b"minus", minus(p, q)),
+        b't' => print::line(rt, b"times", times(p, q, s)),
+        b'o' => print::line(rt, b"over", over(p, q, s)),
+        b'x' => print::line(rt, b"times_ratio", times_ratio(p, c, d, s)),
+        b'y' => print::line(rt, b"over_ratio", over_ratio(p, c, d, s)),
+        b'r' => print::line(rt, b"root", root(p, c)),
+        b'R' => print::line(rt, b"roots", roots(p, q, s)),
+        b'c' => print::line(rt, b"cube_root", cube_root(p, c)),
+        b'i' => print::line(rt, b"smaller", Outcome::Ends(p.smaller(q))),
+        _ => Ok(()),
     }
 }

@@ -2,6 +2,7 @@
 use cases::print;
 use pair::signed::{Integer, Signed};
 use pair::{Pair, TwoPairs, wide};
+use std::io;
 
 // What an operation gave.
 #[derive(Clone, Copy)]
@@ -16,28 +17,33 @@ pub enum Outcome {
     SignedEnds(Signed),
 }
 
-fn two(a: u64, b: u64) {
-    print::number(a);
-    print::number(b);
+fn two(rt: &impl Print, a: u64, b: u64) -> io::Result<()> {
+    print::number(rt, a)?;
+    print::number(rt, b)
+}
+
+fn two_ends(rt: &impl Print, t: TwoPairs) -> io::Result<()> {
+    print::ends(rt, t.one)?;
+    print::ends(rt, t.two)
+}
+
+// What an operation gave.
+fn given(rt: &impl Print, outcome: Outcome) -> io::Result<()> {
+    match outcome {
+        Outcome::NotApplied => print::text(rt, b" does not apply"),
+        Outcome::Truth(holds) => print::number(rt, wide::pick(holds, 1, 0)),
+        Outcome::Whole(n) => print::number(rt, n),
+        Outcome::Rooted(root, rest) => two(rt, root, rest),
+        Outcome::Ends(p) => print::ends(rt, p),
+        Outcome::TwoEnds(t) => two_ends(rt, t),
+        Outcome::Integer(z) => print::integer(rt, z),
+        Outcome::SignedEnds(a) => print::signed_ends(rt, a),
+    }
 }
 
 // A line: the operation's name, and what it gave.
-pub fn line(name: &[u8], outcome: Outcome) {
-    print::text(name);
-    match outcome {
-        Outcome::NotApplied => {
-            print::text(b" does not apply");
-        }
-        Outcome::Truth(holds) => print::number(wide::pick(holds, 1, 0)),
-        Outcome::Whole(n) => print::number(n),
-        Outcome::Rooted(root, rest) => two(root, rest),
-        Outcome::Ends(p) => print::ends(p),
-        Outcome::TwoEnds(t) => {
-            print::ends(t.one);
-            print::ends(t.two);
-        }
-        Outcome::Integer(z) => print::integer(z),
-        Outcome::SignedEnds(a) => print::signed_ends(a),
-    }
-    print::text(b"\n");
+pub fn line(rt: &impl Print, name: &[u8], outcome: Outcome) -> io::Result<()> {
+    print::text(rt, name)?;
+    given(rt, outcome)?;
+    print::text(rt, b"\n")
 }

@@ -2,6 +2,7 @@
 use crate::print::Outcome;
 use crate::{Operands, print};
 use pair::{Pair, roots, wide};
+use std::io;
 
 fn floor_of(a: u64, b: u64, d: u64) -> Outcome {
     if pair_checked::floor_fits(a, b, d) {
@@ -35,17 +36,17 @@ fn cube_of(n: u64) -> Outcome {
     Outcome::Rooted(t.root, t.rest)
 }
 
-pub fn run(letter: u8, o: Operands) {
+pub fn run(rt: &impl Print, letter: u8, o: Operands) -> io::Result<()> {
     let a = o.a.size;
     let b = o.b.size;
     let d = o.c.size;
     match letter {
-        b'h' => print::line(b"high", Outcome::Whole(wide::high(a, b))),
-        b'f' => print::line(b"floor_of", floor_of(a, b, d)),
-        b'g' => print::line(b"ceil_of", ceil_of(a, b, d)),
-        b'q' => print::line(b"square_of", square_of(a)),
-        b's' => print::line(b"scaled_square", scaled_square(a, b)),
-        b'k' => print::line(b"cube_of", cube_of(a)),
-        _ => {}
+        b'h' => print::line(rt, b"high", Outcome::Whole(wide::high(a, b))),
+        b'f' => print::line(rt, b"floor_of", floor_of(a, b, d)),
+        b'g' => print::line(rt, b"ceil_of", ceil_of(a, b, d)),
+        b'q' => print::line(rt, b"square_of", square_of(a)),
+        b's' => print::line(rt, b"scaled_square", scaled_square(a, b)),
+        b'k' => print::line(rt, b"cube_of", cube_of(a)),
+        _ => Ok(()),
     }
 }

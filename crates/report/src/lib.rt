@@ -2,4 +2,5 @@
 #![tactic(auto)]
 
 pub mod printing;
+pub mod programs;
 pub mod streams;

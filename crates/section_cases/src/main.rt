@@ -9,7 +9,9 @@ mod print;
 ghost use Rattle.section.specs.Sound.{Sound};
 
 use certificate::{Found, refusals, verdicts};
+use report::streams;
 use section::{SHEET_LINES, Sheet, sections, sheets};
+use std::io;
 
 // The number behind so many blanks.
 fn size(line: &[u8], blanks: u64) -> u64 {
@@ -27,34 +29,35 @@ fn sheet_in(line: &[u8]) -> Sheet {
 }
 
 // A section that meets questions 2 to 10.
-fn work(q: Sheet)
+fn work(rt: &impl Print, q: Sheet) -> io::Result<()>
     requires { Sound q }
 {
     let n = sheets::fineness_of(q);
     let w = sections::work(n, q);
     let f = sections::figures_of(n, q, w);
-    print::line(w, f);
+    print::line(rt, w, f)
 }
 
-fn run(q: Sheet) {
+fn run(rt: &impl Print, q: Sheet) -> io::Result<()> {
     let found = verdicts::first_refusal(q);
     match found {
-        Found::Unmet(r) => print::refused(refusals::refusal_answer(r)),
-        Found::Met => work(q),
+        Found::Unmet(r) => print::refused(rt, refusals::refusal_answer(r)),
+        Found::Met => work(rt, q),
     }
 }
 
-fn run_all(input: &[u8]) {
+fn run_all(rt: &impl Print, input: &[u8]) -> io::Result<()> {
     let mut at = 0;
     while at < input.len() {
         let end = cases::line_end(input, at);
-        run(sheet_in(&input[at..end]));
+        run(rt, sheet_in(&input[at..end]))?;
         at = end + 1;
     }
+    Ok(())
 }
 
-fn main() {
+fn main(rt: HostRuntime) -> io::Result<()> {
     let mut buffer = cases::buffer();
-    let n = io::read_full(0, &mut buffer);
-    run_all(&buffer[..n]);
+    let n = streams::read(&mut rt.stdin(), &mut buffer)?;
+    run_all(&rt, &buffer[..n])
 }
