@@ -29,8 +29,8 @@ use Rattle.catalogue.proofs.EntryLaws.{found, fails_here, passes_here, none_foun
 use Rattle.catalogue.proofs.Spellings.{none_misspelt}
 use Rattle.catalogue.proofs.OutcomeLaws.{outcome_15}
 
-abbrev longest_sheet : ℕ
-longest_sheet = longest sheet_fields
+abbrev most_bytes : ℕ
+most_bytes = longest sheet_fields
 
 -- a sheet that meets the first question has its lines, each with its newline, and no more bytes than the longest
 module _ (p : List ℕ) (right : number_of p ≡ 1 → ⊥) where
@@ -40,7 +40,7 @@ module _ (p : List ℕ) (right : number_of p ≡ 1 → ⊥) where
       let q = (meets_first p (longest certificate_fields)).0 right in
       record { lines = sheet_lines_lem p q.0 q.1; ended = sheet_ended p q.0 q.1 }
 
-  right_most : length p ≤ longest_sheet
+  right_most : length p ≤ most_bytes
   unfolding number_of certified
   right_most = let q = (meets_first p (longest certificate_fields)).0 right in sheet_most p q.0 q.1
 
@@ -55,7 +55,7 @@ pub sheets_of_spelt : (ps : List (List ℕ)) → AllSpelt ps → sheets_in (join
 sheets_of_spelt ps s = sheets_unique ps (whole_pieces ps (none_misspelt ps s))
 
 -- a cut sheet has the same number
-cut_number : (p : List ℕ) (m : ℕ) → longest_sheet < m → number_of (take m p) ≡ number_of p
+cut_number : (p : List ℕ) (m : ℕ) → most_bytes < m → number_of (take m p) ≡ number_of p
 unfolding number_of certified
 cut_number p m h = ap (λ o. (answer_of refusal_answer o).refusal) (cut_sheet p m (longest certificate_fields) h)
 
@@ -97,7 +97,7 @@ pub data Alike (place : ℕ) (s : List ℕ) (m : ℕ) : Type 0 where
   uncut : take m s ≡ s → Alike place s m
   stopped : (r : ReportRefusal) → found place (sheets_in (take m s)) ≡ refusal r → found place (sheets_in s) ≡ refusal r → Alike place s m
 
-module _ (place : ℕ) (s : List ℕ) (m : ℕ) (longer : m < length s) (enough : longest_sheet < m) where
+module _ (place : ℕ) (s : List ℕ) (m : ℕ) (longer : m < length s) (enough : most_bytes < m) where
   some_bytes : 0 < length s
   some_bytes = omega arith
 
@@ -126,7 +126,7 @@ module _ (place : ℕ) (s : List ℕ) (m : ℕ) (longer : m < length s) (enough 
     found_behind (stopped r e f) = stopped r (passes_here place first_kept right ∙ e) (passes_here place (sheets_next s some_bytes) right ∙ f)
 
 -- of at most k sheets, cut behind more bytes than so many can have
-pub alike : (k place : ℕ) (s : List ℕ) (m : ℕ) → length (sheets_in s) ≤ k → k * longest_sheet < m → Alike place s m
+pub alike : (k place : ℕ) (s : List ℕ) (m : ℕ) → length (sheets_in s) ≤ k → k * most_bytes < m → Alike place s m
 alike zero place s m few enough =
     by_test (leb (length s) m) (λ b. Alike place s m)
     (λ t. uncut (take_all m s (leb-true (length s) m t)))
@@ -136,7 +136,7 @@ alike (suc k) place s m few enough =
     (λ t. uncut (take_all m s (leb-true (length s) m t)))
     (λ f.
     let longer = leb-false (length s) m f in
-    let more : longest_sheet + k * longest_sheet < m = omega (arith, enough, suc-mul k longest_sheet) in
+    let more : most_bytes + k * most_bytes < m = omega (arith, enough, suc-mul k most_bytes) in
     by_test (eqb (number_of (first_sheet s)) 1) (λ b. Alike place s m)
     (λ t. stopped_first place s m longer (omega arith) (eqb-true (number_of (first_sheet s)) 1 t))
     (λ g.

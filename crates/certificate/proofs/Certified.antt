@@ -32,7 +32,7 @@ use Rattle.certificate.specs.Keys.{sheet_fields, certificate_fields}
 use Rattle.certificate.specs.Refusals.{refusal_answer}
 use Rattle.certificate.specs.Questions.{verdict, verdict_of}
 use Rattle.certificate.specs.Certificates.{sheet_values, sheet_shown, certificate_values, certificate_of, figures_read, figures_in}
-use Rattle.certificate.specs.Reasons.{lines_of, lines_on_numbers}
+use Rattle.certificate.specs.Reasons.{lines_of_questions, lines_on_numbers}
 use Rattle.certificate.specs.Outcome.{outcome_of, outcome}
 use Rattle.certificate.specs.Promises.{Question1, NumbersUnmet, lines_of_writing}
 use Rattle.certificate.proofs.Theorems.{so_is_allowed, accepted_is_met}
@@ -76,7 +76,7 @@ not_both e g = let z : ◌≡◌ {A = ℕ} 0 1 = cc in omega arith
 
 -- no question stands behind the twelfth
 last_question : (q : Sheet) (room : ℕ) (a : Answer) → 11 < a.refusal → NumbersUnmet q room a → a.refusal ≡ 12
-unfolding lines_of_writing lines_of lines_on_numbers
+unfolding lines_of_writing lines_of_questions lines_on_numbers
 last_question q room a h u =
     by_test (leb a.refusal 12) (λ b. a.refusal ≡ 12)
     (λ t. omega (arith, h, leb-true a.refusal 12 t))

@@ -19,7 +19,7 @@ use Rattle.questions.specs.Answers.{answer}
 use Rattle.certificate.specs.Refusals.{refusal_answer}
 use Rattle.questions.specs.Asking.{Finding, met}
 use Rattle.questions.specs.Reasons.{AllSo, Reason, FoundAs, Refuses}
-use Rattle.certificate.specs.Reasons.{lines_of}
+use Rattle.certificate.specs.Reasons.{lines_of_questions}
 use Rattle.certificate.specs.Certificates.{sheet_values, figure_values, certificate_values, certificate_of, sheet_shown}
 use Rattle.certificate.specs.Outcome.{checking, outcome_of, checked}
 use Rattle.questions.specs.Outcomes.{refused, written, written_if_met, answer_of}
@@ -70,21 +70,21 @@ module _ (c : List ℕ) where
 
   -- what passes meets the questions up to the eleventh, and its lines behind the sheet's are the figures'
   passed_claims : (vs : List ℤ) → read_lines certificate_fields c ≡ values vs
-      → (checked c ≡ met) ↔ (AllSo (lines_of (sheet_shown vs)) × (drop sheet_lines vs ≡ figure_values (own_figures (sheet_shown vs))))
+      → (checked c ≡ met) ↔ (AllSo (lines_of_questions (sheet_shown vs)) × (drop sheet_lines vs ≡ figure_values (own_figures (sheet_shown vs))))
   unfolding lines_of_checking
   passed_claims vs g =
       let q = sheet_shown vs in
       let n = lines_count vs g in
       let same = right_certificate c vs g in
       let met = met_when_so refusal_answer 0 2 (checking vs q) (lines_of_checking vs q) (checking_told vs q n) in
-      let both = so_of_both (lines_of q) ([] ∷ lines13 vs q ∷ []) in
+      let both = so_of_both (lines_of_questions q) ([] ∷ lines13 vs q ∷ []) in
       let agree = figures_agree vs q n in (
         λ e. let b = both.0 (met.0 (sym same ∙ e)) in (b.0, agree.0 b.1.1.0),
         λ h. same ∙ met.1 (both.1 (h.0, (tt, (agree.1 h.1, tt)))),
       )
 
   -- so it is the certificate of the sheet that it shows
-  passed_is : (vs : List ℤ) → read_lines certificate_fields c ≡ values vs → checked c ≡ met → AllSo (lines_of (sheet_shown vs)) × (c ≡ certificate_of (sheet_shown vs))
+  passed_is : (vs : List ℤ) → read_lines certificate_fields c ≡ values vs → checked c ≡ met → AllSo (lines_of_questions (sheet_shown vs)) × (c ≡ certificate_of (sheet_shown vs))
   unfolding certificate_of certificate_values
   passed_is vs g e =
       let q = sheet_shown vs in
@@ -94,7 +94,7 @@ module _ (c : List ℕ) where
       (p.0, t.text ∙ ap (lines_text certificate_fields) parts)
 
   -- and the certificate of a sheet that meets the questions passes
-  passes_for : (q : Sheet) → AllSo (lines_of q) → c ≡ certificate_of q → checked c ≡ met
+  passes_for : (q : Sheet) → AllSo (lines_of_questions q) → c ≡ certificate_of q → checked c ≡ met
   unfolding certificate_values
   passes_for q h e =
       let p = figure_values (own_figures q) in
@@ -102,10 +102,10 @@ module _ (c : List ℕ) where
       let t = subst (TextOf certificate_fields vs) (sym e) (certificate_text_lem q ((so_is_allowed q).0 h).0) in
       let back = sym (sheet_back q p) in
       (passed_claims vs ((reads_values certificate_fields c vs).1 t)).1
-      (subst (λ (x : Sheet). AllSo (lines_of x)) back h, subst (λ (x : Sheet). drop sheet_lines vs ≡ figure_values (own_figures x)) back (behind_sheet q p))
+      (subst (λ (x : Sheet). AllSo (lines_of_questions x)) back h, subst (λ (x : Sheet). drop sheet_lines vs ≡ figure_values (own_figures x)) back (behind_sheet q p))
 
 -- a certificate of a sheet that meets questions 2 to 11 is written, given room
-issued_for : (q : Sheet) → AllSo (lines_of q) → outcome_of q (length (certificate_of q)) ≡ written (certificate_of q)
+issued_for : (q : Sheet) → AllSo (lines_of_questions q) → outcome_of q (length (certificate_of q)) ≡ written (certificate_of q)
 issued_for q h =
     let room = length (certificate_of q) in
     (numbers_written q room (certificate_of q)).1 ((claims_are q room).1 (h, omega arith), refl)

@@ -12,7 +12,7 @@ use Rattle.lines.proofs.Laws.{lines_join, reads_values}
 use Rattle.certificate.specs.Keys.{sheet_fields, figure_fields, certificate_fields}
 use Rattle.questions.specs.Asking.{met}
 use Rattle.questions.specs.Reasons.{AllSo}
-use Rattle.certificate.specs.Reasons.{lines_of}
+use Rattle.certificate.specs.Reasons.{lines_of_questions}
 use Rattle.certificate.specs.Certificates.{sheet_values, figure_values, certificate_values, certificate_of, figures_shown}
 use Rattle.questions.specs.Outcomes.{written}
 use Rattle.certificate.specs.Promises.{Question1, lines_of_writing, HoldsFinerWorkings, own_lines, FinerWorkingsHeld}
@@ -27,7 +27,7 @@ own_lines_then q = lines_join sheet_fields figure_fields (sheet_values q) (figur
 
 -- The third demand, entire.
 module _ (q : Sheet) where
-  held_by : AllSo (lines_of q) → HoldsFinerWorkings q (own_lines q) (certificate_of q)
+  held_by : AllSo (lines_of_questions q) → HoldsFinerWorkings q (own_lines q) (certificate_of q)
   unfolding certificate_values
   held_by h =
       let met = (so_is_allowed q).0 h in

@@ -15,7 +15,7 @@ use Rattle.questions.specs.declared.Answer.{Answer}
 use Rattle.certificate.specs.declared.Refusal.{Refusal}
 use Rattle.certificate.specs.Refusals.{refusal_answer}
 use Rattle.questions.specs.Asking.{Finding, refusal, met}
-use Rattle.certificate.specs.Reasons.{lines_on_numbers, lines_of}
+use Rattle.certificate.specs.Reasons.{lines_on_numbers, lines_of_questions}
 use Rattle.certificate.specs.Certificates.{read_sheet, sheet_in}
 use Rattle.certificate.specs.Outcome.{outcome_of, outcome_read, outcome, checked_read, checked}
 use Rattle.questions.specs.Outcomes.{written, written_if_met, answer_of}
@@ -40,7 +40,7 @@ sheet_length s room t e =
 -- So a room of the longest never is too small, for numbers and for text.
 module _ (room : ℕ) (enough : longest certificate_fields ≤ room) where
   not_unmet : (q : Sheet) (a : Answer) → a.refusal ≡ 12 → NumbersUnmet q room a → ⊥
-  unfolding lines_of_writing lines_of lines_on_numbers lines12
+  unfolding lines_of_writing lines_of_questions lines_on_numbers lines12
   not_unmet q a e h =
       let sound = ((so_is_allowed q).0 (rw e at h.before)).0 in
       ⊎_elim (λ n. n.0 (omega (arith, enough, length_most q sound))) (λ n. n.1) (rw e at h.first)

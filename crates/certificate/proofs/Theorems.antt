@@ -15,7 +15,7 @@ use Rattle.questions.specs.declared.Answer.{Answer}
 use Rattle.questions.specs.Answers.{answer}
 use Rattle.certificate.specs.Refusals.{refusal_answer}
 use Rattle.questions.specs.Reasons.{Lined, AllSo, Reason, FoundAs}
-use Rattle.certificate.specs.Reasons.{lines_on_numbers, lines11, lines_of, JudgedAs}
+use Rattle.certificate.specs.Reasons.{lines_on_numbers, lines11, lines_of_questions, JudgedAs}
 use Rattle.questions.proofs.Laws.{met_when_so, found_with_reason}
 use Rattle.certificate.proofs.Ties.{So-in_range, on_numbers_told, questions_told}
 
@@ -50,8 +50,8 @@ so_of_both (l ∷ ls) ms =
     (λ h. ((h.0, (r.0 h.1).0), (r.0 h.1).1), λ h. (h.0.0, r.1 (h.0.1, h.1)))
 
 -- and those of question 11 with them
-pub so_is_allowed : (q : Sheet) → AllSo (lines_of q) ↔ (Sound q × Question11 (fineness q) q)
-unfolding lines_of lines11
+pub so_is_allowed : (q : Sheet) → AllSo (lines_of_questions q) ↔ (Sound q × Question11 (fineness q) q)
+unfolding lines_of_questions lines11
 so_is_allowed q =
     let both = so_of_both (lines_on_numbers q) (lines11 q ∷ []) in
     let sound = so_is_sound q in
@@ -85,25 +85,25 @@ pub accepted_is_met : (q : Sheet) (p : Printed) → (verdict q ≡ accepted p) �
 unfolding verdict
 accepted_is_met q p =
     let j = judged-accepted (first_in (questions q)) (own_figures q) p in
-    let met = met_when_so refusal_answer 0 2 (questions q) (lines_of q) (questions_told q 0) in
+    let met = met_when_so refusal_answer 0 2 (questions q) (lines_of_questions q) (questions_told q 0) in
     let allowed = so_is_allowed q in (
       λ e. let h = allowed.0 (met.0 (j.0 e).0) in (h.0, h.1, (j.0 e).1),
       λ h. j.1 (met.1 (allowed.1 (h.0, h.1)), h.2),
     )
 
 -- and refused exactly where there is a reason
-pub verdict_with_reason : (q : Sheet) (a : Answer) → JudgedAs (verdict q) a ↔ Reason 2 (lines_of q) 0 a
+pub verdict_with_reason : (q : Sheet) (a : Answer) → JudgedAs (verdict q) a ↔ Reason 2 (lines_of_questions q) 0 a
 unfolding verdict
 verdict_with_reason q a =
     let j = judged_refused (first_in (questions q)) (own_figures q) in
-    let r = found_with_reason refusal_answer 0 2 (questions q) (lines_of q) (questions_told q 0) a in (
+    let r = found_with_reason refusal_answer 0 2 (questions q) (lines_of_questions q) (questions_told q 0) a in (
       λ v. r.0 (record { what = v.refusal; found = (j v.refusal).0 v.judged; tells = v.tells }),
       λ h. let f = r.1 h in record { refusal = f.what; judged = (j f.what).1 f.found; tells = f.tells },
     )
 
 -- with 11 exactly where it meets questions 2 to 10, and the area's upper end passes the allowance
 pub beyond_the_allowance : (q : Sheet) → JudgedAs (verdict q) (answer 11 12 0) ↔ (Sound q × (Question11 (fineness q) q → ⊥))
-unfolding lines_of lines_on_numbers lines11
+unfolding lines_of_questions lines_on_numbers lines11
 beyond_the_allowance q =
     let w = verdict_with_reason q (answer 11 12 0) in (
       λ v. let h = w.0 v in ((so_is_sound q).0 h.before, λ m. ⊎_elim (λ n. n.0 m.allowed) (λ n. n.1) h.first),

@@ -18,7 +18,7 @@ use Rattle.certificate.specs.declared.Refusal.TheVariants.{Range, Figure}
 use Rattle.certificate.specs.Refusals.{refusal_answer}
 use Rattle.certificate.specs.Questions.{question2, question3, question4, question5, question6, question7, question8, question9, question10, question11, on_numbers, questions}
 use Rattle.questions.specs.Reasons.{Lined, lined_from, So}
-use Rattle.certificate.specs.Reasons.{lines_on_numbers, lines11, lines_of}
+use Rattle.certificate.specs.Reasons.{lines_on_numbers, lines11, lines_of_questions}
 use Rattle.certificate.specs.Certificates.{figure_values, certificate_of, agreeing}
 use Rattle.questions.specs.Outcomes.{fitting}
 use Rattle.certificate.specs.Outcome.{question12, question13, writing, checking}
@@ -80,12 +80,12 @@ module _ (q : Sheet) where
     unfolding on_numbers lines_on_numbers
     on_numbers_told = told_before [] [] tt
 
-    told_then : (qs : List (List (Asked Refusal))) (ls : List (List Lined)) → ToldFrom refusal_answer needed 12 qs ls → ToldFrom refusal_answer needed 2 (questions q ++ qs) (lines_of q ++ ls)
-    unfolding questions on_numbers lines_of lines_on_numbers lines11 question11
+    told_then : (qs : List (List (Asked Refusal))) (ls : List (List Lined)) → ToldFrom refusal_answer needed 12 qs ls → ToldFrom refusal_answer needed 2 (questions q ++ qs) (lines_of_questions q ++ ls)
+    unfolding questions on_numbers lines_of_questions lines_on_numbers lines11 question11
     told_then qs ls t = told_before (question11 q ∷ qs) (lines11 q ∷ ls) ((refl, refl, tt), t)
 
-    pub questions_told : ToldFrom refusal_answer needed 2 (questions q) (lines_of q)
-    unfolding questions lines_of lines11 question11
+    pub questions_told : ToldFrom refusal_answer needed 2 (questions q) (lines_of_questions q)
+    unfolding questions lines_of_questions lines11 question11
     questions_told = told_before (question11 q ∷ []) (lines11 q ∷ []) ((refl, refl, tt), tt)
 
   pub writing_told : (room : ℕ) → ToldFrom refusal_answer (length (certificate_of q)) 2 (writing room q) (lines_of_writing room q)

@@ -16,7 +16,7 @@ use Rattle.questions.specs.Answers.{answer}
 use Rattle.certificate.specs.Refusals.{refusal_answer}
 use Rattle.questions.specs.Asking.{met, first_in}
 use Rattle.questions.specs.Reasons.{AllSo, Refuses}
-use Rattle.certificate.specs.Reasons.{lines_of}
+use Rattle.certificate.specs.Reasons.{lines_of_questions}
 use Rattle.certificate.specs.Certificates.{sheet_values, certificate_of, sheet_shown}
 use Rattle.certificate.specs.Outcome.{writing, outcome_of, outcome}
 use Rattle.questions.specs.Outcomes.{refused, written, answer_of}
@@ -47,10 +47,10 @@ module _ (q : Sheet) (room : ℕ) where
       (λ h. r.0 (e.0 h).0, λ h. e.1 (r.1 h, omega (arith, h.numbered)))
 
   -- the claims of writing are those up to the eleventh, and that the certificate fits
-  pub claims_are : AllSo (lines_of_writing room q) ↔ (AllSo (lines_of q) × (length (certificate_of q) ≤ room))
+  pub claims_are : AllSo (lines_of_writing room q) ↔ (AllSo (lines_of_questions q) × (length (certificate_of q) ≤ room))
   unfolding lines_of_writing lines12
   claims_are =
-      let both = so_of_both (lines_of q) (lines12 room q ∷ []) in
+      let both = so_of_both (lines_of_questions q) (lines12 room q ∷ []) in
       (λ h. let b = both.0 h in (b.0, b.1.0.0), λ h. both.1 (h.0, ((h.1, tt), tt)))
 
   -- the call with numbers does what `write` does on their text, where they have one

@@ -14,7 +14,7 @@ use Rattle.questions.specs.declared.Answer.{Answer}
 use Rattle.questions.specs.Answers.{answer}
 use Rattle.questions.specs.Reasons.{Lined, ◌at_line◌, lined_from, AllSo, Reason}
 use Rattle.questions.specs.Outcomes.{written}
-use Rattle.certificate.specs.Reasons.{lines_of}
+use Rattle.certificate.specs.Reasons.{lines_of_questions}
 use Rattle.certificate.specs.Certificates.{sheet_values, figure_values, certificate_of, sheet_shown, figures_shown, agreeing}
 use Rattle.certificate.specs.Outcome.{outcome, outcome_of}
 
@@ -32,10 +32,10 @@ lines13 vs q = lined_from (sheet_lines + 1) (agreeing vs q)
 
 -- the claims of writing, and those of checking, which passes over the twelfth question, each with the line that the paper names for it
 unfoldable pub lines_of_writing : ℕ → Sheet → List (List Lined)
-lines_of_writing room q = lines_of q ++ (lines12 room q ∷ [])
+lines_of_writing room q = lines_of_questions q ++ (lines12 room q ∷ [])
 
 unfoldable pub lines_of_checking : List ℤ → Sheet → List (List Lined)
-lines_of_checking vs q = lines_of q ++ ([] ∷ lines13 vs q ∷ [])
+lines_of_checking vs q = lines_of_questions q ++ ([] ∷ lines13 vs q ∷ [])
 
 -- s shows a sheet that meets questions 2 to 12, and t is its certificate
 pub record Written (s : List ℕ) (room : ℕ) (t : List ℕ) : Type 0 where

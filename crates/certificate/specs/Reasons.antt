@@ -38,8 +38,8 @@ unfoldable pub lines11 : Sheet → List Lined
 lines11 q = (allowance (fineness q) q at_line 12) ∷ []
 
 -- the claims up to the eleventh
-unfoldable pub lines_of : Sheet → List (List Lined)
-lines_of q = lines_on_numbers q ++ (lines11 q ∷ [])
+unfoldable pub lines_of_questions : Sheet → List (List Lined)
+lines_of_questions q = lines_on_numbers q ++ (lines11 q ∷ [])
 
 -- a sheet is judged by a refusal whose answer is a
 pub record JudgedAs (j : Judged) (a : Answer) : Type 0 where

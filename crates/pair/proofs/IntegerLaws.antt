@@ -5,12 +5,22 @@ use Prim.Native.Nat.{ℕ, suc, ◌+◌, ◌*◌, ◌≤◌, ◌<◌}
 use native.Mathlib.Nat.{le_of_lt, mul_comm, mul-le-mul_right, le_of_mul-le-mul_right}
 use native.Mathlib.Omega.{arith}
 use borrow.Author.Tests.{leb-true, leb-false, le-leb}
+use lib.Signed.{◌≤ℤ◌}
+use mathlib.Core.Logic.{◌↔◌}
+use borrow.Author.Differences.{le_in, le_T}
 use lib.IntN.{ℤ, pos, negsuc, neg_ℤ, sub_ℕ, ◌+ℤ◌, ◌*ℤ◌, *ℤ-negsuc, *ℤ_comm}
 use Rattle.pair.specs.Integers.{above, below, ◌≼ℤ◌, leb_ℤ, least, greatest}
 use Rattle.pair.proofs.Tests.{by_test}
 use Rattle.pair.proofs.IntegerParts.{sub_parts, neg_above, neg_below, plus_parts, scaled_above, scaled_below, times_parts}
 
 -- the order
+
+-- it is that of the standard library
+pub order-is_std : (x y : ℤ) → (x ≼ℤ y) ↔ (x ≤ℤ y)
+order-is_std (pos a) (pos b) = (λ h. record { le = le_in (pos a) (pos b) h.order }, λ h. record { order = le_T (pos a) (pos b) h.le })
+order-is_std (pos a) (negsuc b) = (λ h. record { le = le_in (pos a) (negsuc b) h.order }, λ h. record { order = le_T (pos a) (negsuc b) h.le })
+order-is_std (negsuc a) (pos b) = (λ h. record { le = le_in (negsuc a) (pos b) h.order }, λ h. record { order = le_T (negsuc a) (pos b) h.le })
+order-is_std (negsuc a) (negsuc b) = (λ h. record { le = le_in (negsuc a) (negsuc b) h.order }, λ h. record { order = le_T (negsuc a) (negsuc b) h.le })
 
 pub le_refl_ℤ : (x : ℤ) → x ≼ℤ x
 le_refl_ℤ x = omega arith

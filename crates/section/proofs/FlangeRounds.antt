@@ -31,12 +31,12 @@ use Rattle.section.proofs.SizesOfFactors.{flexibility_of_box, bend_room, ud_box,
 -- what a flange's part divides by: a and J of its stiffener
 pub record StiffenerDivisors (n : ℕ) (t : Pair) (s : Stiffener) : Type 0 where
   pub a : Positive s.a
-  pub inertia_of : Positive (inertia_of n t s)
+  pub inertia : Positive (inertia_of n t s)
 
 -- above zero at n, so at m × n
 pub divisors_finer : {n m : ℕ} {t t' : Pair} {s s' : Stiffener} → 0 < n → 0 < m → Inside m t' t → StiffenerInside m s' s
     → StiffenerDivisors n t s → StiffenerDivisors (m * n) t' s'
-divisors_finer n⁺ m⁺ t_in i d = record { a = Positive-Inside m⁺ i.a d.a; inertia_of = Positive-Inside m⁺ (inertia_of-Inside n⁺ m⁺ d.a t_in i) d.inertia_of }
+divisors_finer n⁺ m⁺ t_in i d = record { a = Positive-Inside m⁺ i.a d.a; inertia = Positive-Inside m⁺ (inertia_of-Inside n⁺ m⁺ d.a t_in i) d.inertia }
 
 module _ {n m : ℕ} (n⁺ : 0 < n) (m⁺ : 0 < m) {x x' : Common} (t⁺ : Positive (core n x)) (x_in : CommonInside n m x' x) where
   pub refined_inside : {f f' : Flange} {χ₀ χ₀' kf kf' o o' : Pair} → FlangeInside m f' f → StiffenerDivisors n (core n x) (stiffener_of n x.cp f χ₀)
@@ -44,14 +44,14 @@ module _ {n m : ℕ} (n⁺ : 0 < n) (m⁺ : 0 < m) {x x' : Common} (t⁺ : Posit
   unfolding refined_flange
   refined_inside f_in d χ₀_in kf_in o_in =
       let s = stiffener_inside n⁺ m⁺ x_in.cp f_in χ₀_in in
-      let new = χ_of-Inside n⁺ m⁺ t⁺ d.a d.inertia_of x_in kf_in (g-Inside n⁺ m⁺ d.a f_in.bp s) o_in s in
+      let new = χ_of-Inside n⁺ m⁺ t⁺ d.a d.inertia x_in kf_in (g-Inside n⁺ m⁺ d.a f_in.bp s) o_in s in
       record { stiffener = s; chi = smaller-Inside new χ₀_in }
 
 -- a and J of a stiffener in its box are above zero, for a flange of width β in 0.01 mm with a lip of γ in 0.005 mm
 pub box_divisors : {n t fyb γ β : ℕ} {s : Stiffener} → Fine n → FlangeNumbers t fyb γ β → StiffenerBox n γ β s → StiffenerDivisors n (mm n t) s
 box_divisors {n} {t} f v b =
     let t⁺ : 0 < t = omega arith in
-    record { a = box_positive f (lit< tt) (stiffener_range n f v b).a; inertia_of = box_positive f (omega (arith, mul-pos t⁺ t⁺)) (inertia_of_box n f v b) }
+    record { a = box_positive f (lit< tt) (stiffener_range n f v b).a; inertia = box_positive f (omega (arith, mul-pos t⁺ t⁺)) (inertia_of_box n f v b) }
 
 -- kf of a flange of width β is at most 6 where the other flange, of width β', is not too wide beside it
 module _ {n t fyb γ β β' : ℕ} (f : Fine n) (v : FlangeNumbers t fyb γ β) (near : Beside γ β β')
@@ -75,18 +75,18 @@ module _ {n : ℕ} (f : Fine n) (x : Common) {γ β : ℕ} (v : FlangeNumbers x.
     t⁺ : 0 < x.t.0
     t⁺ = omega arith
 
-    flexibility_of_in : Inside n (flexibility_of n x.hp kf (g n bp s) o) (0 to 792000000 * (x.t.0 * x.t.0))
-    flexibility_of_in = flexibility_of_box n f x.t.0 v.thick hp_in kf_in (g_thin n f v b bp_box) (g_wide n f v b bp_box) o_in
+    flexibility_in : Inside n (flexibility_of n x.hp kf (g n bp s) o) (0 to 792000000 * (x.t.0 * x.t.0))
+    flexibility_in = flexibility_of_box n f x.t.0 v.thick hp_in kf_in (g_thin n f v b bp_box) (g_wide n f v b bp_box) o_in
 
     ud_in : Inside n (ud n (flexibility_of n x.hp kf (g n bp s) o) (inertia_of n (core n x) s) (stress_of n (core n x) (strength n x) s)) (0 to 33500000)
-    ud_in = ud_box n f x.t.0 t⁺ flexibility_of_in (inertia_of_box n f v b) (stress_of_box n f v b)
+    ud_in = ud_box n f x.t.0 t⁺ flexibility_in (inertia_of_box n f v b) (stress_of_box n f v b)
 
     pub factor_room : FactorRoom n x kf (g n bp s) o s
     factor_room = record {
       bend = bend_room n f x.t.0 v.thick hp_in kf_in (g_thin n f v b bp_box) (g_wide n f v b bp_box) o_in;
       inertia = inertia_room n f v b;
       stress = stress_room n f v b;
-      slender = ud_room n f x.t.0 t⁺ flexibility_of_in (inertia_of_box n f v b) (stress_of_box n f v b);
+      slender = ud_room n f x.t.0 t⁺ flexibility_in (inertia_of_box n f v b) (stress_of_box n f v b);
       slim = box_slim f ud_in (lit≤ tt);
     }
 

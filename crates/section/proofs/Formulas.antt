@@ -87,9 +87,9 @@ module _ {n m : ℕ} (n⁺ : 0 < n) (m⁺ : 0 < m) where
   unfolding flexibility_of
   flexibility_of-Inside hp kf g o = search inside depth 20
 
-  pub ud-Inside : {flexibility_of D' inertia_of J' stress_of T' : Pair} → Positive inertia_of → Inside m D' flexibility_of → Inside m J' inertia_of → Inside m T' stress_of → Inside m (ud (m * n) D' J' T') (ud n flexibility_of inertia_of stress_of)
+  pub ud-Inside : {D D' J J' T T' : Pair} → Positive J → Inside m D' D → Inside m J' J → Inside m T' T → Inside m (ud (m * n) D' J' T') (ud n D J T)
   unfolding ud
-  ud-Inside J⁺ flexibility_of inertia_of stress_of = search inside depth 20
+  ud-Inside J⁺ D J T = search inside depth 20
 
   pub χ_of-Inside : {x x' : Common} {kf kf' g g' o o' : Pair} {s s' : Stiffener} → Positive (core n x) → Positive s.a → Positive (inertia_of n (core n x) s)
       → CommonInside n m x' x → Inside m kf' kf → Inside m g' g → Inside m o' o → StiffenerInside m s' s

@@ -42,7 +42,7 @@ module _ {n m : ℕ} (n⁺ : 0 < n) (m⁺ : 0 < m) where
     twice_a = whole-times_above 2 (lit< tt) i.a d.a;
     four_a = whole-times_above 4 (lit< tt) i.a d.a;
     a = finer_above i.a d.a;
-    inertia_of = finer_above (inertia_of-Inside n⁺ m⁺ d.a t_in i) d.inertia_of;
+    inertia = finer_above (inertia_of-Inside n⁺ m⁺ d.a t_in i) d.inertia;
   }
 
   -- k of the lip of a flange of width b, in 0.01 mm

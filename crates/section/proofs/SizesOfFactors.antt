@@ -67,39 +67,39 @@ module _ (n : ℕ) where
         }
 
   -- ud, at most 33.5, where D÷J is at most 28,300,000 for every thickness
-  module _ (f : Fine n) (t : ℕ) {flexibility_of J T : Pair} (t⁺ : 0 < t) (flexibility_of_in : Inside n flexibility_of (0 to 792000000 * (t * t)))
+  module _ (f : Fine n) (t : ℕ) {D J T : Pair} (t⁺ : 0 < t) (flexibility_in : Inside n D (0 to 792000000 * (t * t)))
       (inertia_in : Inside n J (28 * (t * t) to 11053391240000)) (stress_in : Inside n T (0 to 220000000)) where
     J⁺ : 0 < 28 * (t * t)
     J⁺ = omega (arith, mul-pos t⁺ t⁺)
 
-    quotient_box : Inside n (flexibility_of ⊘ J) (0 to 28300000000000)
-    quotient_box = over_box 0 28300000000000 (scale f) J⁺ (lit< tt) flexibility_of_in inertia_in (lit≤ tt) (omega arith)
+    quotient_box : Inside n (D ⊘ J) (0 to 28300000000000)
+    quotient_box = over_box 0 28300000000000 (scale f) J⁺ (lit< tt) flexibility_in inertia_in (lit≤ tt) (omega arith)
 
-    once_box : Inside n (flexibility_of ⊘ J ⊗ T) (0 to 6226000000000000)
+    once_box : Inside n (D ⊘ J ⊗ T) (0 to 6226000000000000)
     once_box = times_box 0 6226000000000000 (scale f) quotient_box stress_in (lit≤ tt) (lit≤ tt)
 
-    twice_box : Inside n (flexibility_of ⊘ J ⊗ T ⊗ T) (0 to 1369720000000000000)
+    twice_box : Inside n (D ⊘ J ⊗ T ⊗ T) (0 to 1369720000000000000)
     twice_box = times_box 0 1369720000000000000 (scale f) once_box stress_in (lit≤ tt) (lit≤ tt)
 
-    poisson_box : Inside n (flexibility_of ⊘ J ⊗ T ⊗ T ⊗ constant n 91 100) (0 to 1246445200000000000)
+    poisson_box : Inside n (D ⊘ J ⊗ T ⊗ T ⊗ constant n 91 100) (0 to 1246445200000000000)
     poisson_box = times_box 0 1246445200000000000 (scale f) twice_box (constant_box f 91 100 910000 (lit< tt) refl) (lit≤ tt) (lit≤ tt)
 
-    million_box : Inside n (flexibility_of ⊘ J ⊗ T ⊗ T ⊗ constant n 91 100 ⊘ whole n 1000000) (0 to 1246445200000)
+    million_box : Inside n (D ⊘ J ⊗ T ⊗ T ⊗ constant n 91 100 ⊘ whole n 1000000) (0 to 1246445200000)
     million_box = over_box 0 1246445200000 (scale f) (lit< tt) (lit< tt) poisson_box (whole_box f 1000000) (lit≤ tt) (lit≤ tt)
 
-    inner_box : Inside n (root (scale_of n) (flexibility_of ⊘ J ⊗ T ⊗ T ⊗ constant n 91 100 ⊘ whole n 1000000)) (0 to 1117000000)
+    inner_box : Inside n (root (scale_of n) (D ⊘ J ⊗ T ⊗ T ⊗ constant n 91 100 ⊘ whole n 1000000)) (0 to 1117000000)
     inner_box = root_box 0 1117000000 (scale f) million_box (lit≤ tt) (lit≤ tt)
 
-    pub ud_box : Inside n (ud n flexibility_of J T) (0 to 33500000)
+    pub ud_box : Inside n (ud n D J T) (0 to 33500000)
     unfolding ud
     ud_box = root_box 0 33500000 (scale f) inner_box (lit≤ tt) (lit≤ tt)
 
-    pub ud_room : UdRoom n flexibility_of J T
+    pub ud_room : UdRoom n D J T
     ud_room = record {
       fine = f;
       load = record {
         fine = f;
-        quotient = over_room f flexibility_of J J⁺ inertia_in quotient_box (lit≤ tt);
+        quotient = over_room f D J J⁺ inertia_in quotient_box (lit≤ tt);
         once = times_room f _ _ once_box (lit≤ tt);
         twice = times_room f _ _ twice_box (lit≤ tt);
       };

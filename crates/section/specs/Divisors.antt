@@ -25,7 +25,7 @@ module _ (n : ℕ) where
     -- kf of the flange: a of the other ÷ its own a
     pub a : AboveZero s.a
     -- ud: D÷J×T×T×0.91÷1000000
-    pub inertia_of : AboveZero (inertia_of n t s)
+    pub inertia : AboveZero (inertia_of n t s)
 
   pub record DivisorsAboveZero (q : Sheet) : Type 0 where
     -- the scale: each product is divided by it, and each printed figure

@@ -175,19 +175,19 @@ module _ (n : ℕ) where
     pub first : plus_fits (g ⊗ g ⊗ hp) (g ⊗ g ⊗ g) ≡ true
     pub second : plus_fits (g ⊗ g ⊗ hp ⊕ g ⊗ g ⊗ g) (c 1 2 ⊗ g ⊗ o ⊗ hp ⊗ kf) ≡ true
 
-  pub record LoadRoom (flexibility_of inertia_of stress_of : Pair) : Type 0 where
+  pub record LoadRoom (D J T : Pair) : Type 0 where
     pub fine : Fine n
-    pub quotient : over_fits (scale_of n) flexibility_of inertia_of ≡ true
-    pub once : times_fits (scale_of n) (flexibility_of ⊘ inertia_of) stress_of ≡ true
-    pub twice : times_fits (scale_of n) (flexibility_of ⊘ inertia_of ⊗ stress_of) stress_of ≡ true
+    pub quotient : over_fits (scale_of n) D J ≡ true
+    pub once : times_fits (scale_of n) (D ⊘ J) T ≡ true
+    pub twice : times_fits (scale_of n) (D ⊘ J ⊗ T) T ≡ true
 
-  pub record UdRoom (flexibility_of inertia_of stress_of : Pair) : Type 0 where
+  pub record UdRoom (D J T : Pair) : Type 0 where
     pub fine : Fine n
-    pub load : LoadRoom flexibility_of inertia_of stress_of
-    pub poisson : times_ratio_fits (scale_of n) (flexibility_of ⊘ inertia_of ⊗ stress_of ⊗ stress_of) 91 100 ≡ true
-    pub million : over_ratio_fits (scale_of n) (flexibility_of ⊘ inertia_of ⊗ stress_of ⊗ stress_of ⊗ c 91 100) 1000000 1 ≡ true
-    pub inner : root_fits (scale_of n) (flexibility_of ⊘ inertia_of ⊗ stress_of ⊗ stress_of ⊗ c 91 100 ⊘ c 1000000 1) ≡ true
-    pub outer : root_fits (scale_of n) (root (scale_of n) (flexibility_of ⊘ inertia_of ⊗ stress_of ⊗ stress_of ⊗ c 91 100 ⊘ c 1000000 1)) ≡ true
+    pub load : LoadRoom D J T
+    pub poisson : times_ratio_fits (scale_of n) (D ⊘ J ⊗ T ⊗ T) 91 100 ≡ true
+    pub million : over_ratio_fits (scale_of n) (D ⊘ J ⊗ T ⊗ T ⊗ c 91 100) 1000000 1 ≡ true
+    pub inner : root_fits (scale_of n) (D ⊘ J ⊗ T ⊗ T ⊗ c 91 100 ⊘ c 1000000 1) ≡ true
+    pub outer : root_fits (scale_of n) (root (scale_of n) (D ⊘ J ⊗ T ⊗ T ⊗ c 91 100 ⊘ c 1000000 1)) ≡ true
 
   pub record FactorRoom (y : Common) (kf g o : Pair) (s : Stiffener) : Type 0 where
     pub bend : BendRoom y.hp kf g o

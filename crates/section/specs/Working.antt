@@ -159,10 +159,10 @@ module _ (n : ℕ) where
 
   -- ud, the stiffener's slenderness: the root of the root of D÷J×T×T×0.91÷1000000
   abbrev pub ud⁴ : Pair → Pair → Pair → Pair
-  ud⁴ flexibility_of inertia_of stress_of = flexibility_of ⊘ inertia_of ⊗ stress_of ⊗ stress_of ⊗ constant 91 100 ⊘ whole 1000000
+  ud⁴ D J T = D ⊘ J ⊗ T ⊗ T ⊗ constant 91 100 ⊘ whole 1000000
 
   unfoldable pub ud : Pair → Pair → Pair → Pair
-  ud flexibility_of inertia_of stress_of = root scale_of (root scale_of (ud⁴ flexibility_of inertia_of stress_of))
+  ud D J T = root scale_of (root scale_of (ud⁴ D J T))
 
   -- χ, the thickness factor, at one end below 1.38: 1 for ud ≤ 0.65, else the smaller of 1 and 1.47 − 0.723 × ud (9); the quotient rounded as in ρ
   unfoldable pub χ_before : (ℕ → ℕ → ℕ) → ℕ → ℕ
