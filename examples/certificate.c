@@ -1,7 +1,7 @@
 /*
  * The calls of include/honemagenta.h, from C. In the repository's folder:
  *
- *   rt staticlib honemagenta
+ *   tools/build.sh honemagenta
  *   cc -std=c99 -Iinclude examples/certificate.c target/staticlib/libhonemagenta.a -o certificate
  *   ./certificate
  *

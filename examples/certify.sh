@@ -17,7 +17,7 @@ trap 'rm -f "$log"' EXIT
 if [ ! -x "$root/target/bin/certify" ]; then
     echo "proving and building certify: some two and a half minutes, once" >&2
 fi
-if ! (cd "$root" && rt check certify) >"$log" 2>&1; then
+if ! "$root/tools/build.sh" certify 2>"$log"; then
     tail -n 20 "$log" >&2
     echo "certify could not be proved and built: see above" >&2
     exit 2

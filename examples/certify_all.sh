@@ -1,7 +1,7 @@
 #!/bin/sh
 # Certifies many sheets. In the repository's folder:
 #
-#     rt check certify verify
+#     tools/build.sh certify verify
 #     examples/certify_all.sh SHEET...
 #
 # For a sheet FILE that is certified, FILE.certificate is written, whole and passed by verify. For one that

@@ -1,6 +1,6 @@
 """The calls of include/honemagenta.h, for Python. The shared object, in the repository's folder:
 
-    rt staticlib honemagenta
+    tools/build.sh honemagenta
     cc -shared -o libhonemagenta.so -Wl,--whole-archive target/staticlib/libhonemagenta.a -Wl,--no-whole-archive
 
 Then, in a program:

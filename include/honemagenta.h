@@ -1,7 +1,7 @@
 /*
  * Certificates of lipped C and Z sections, reports on catalogues of them, and a
  * table of lip coefficients: the calls of libhonemagenta.a, which
- * `rt staticlib honemagenta` writes to target/staticlib/.
+ * `tools/build.sh honemagenta` writes to target/staticlib/.
  *
  * What a caller owes. Nothing checks a caller in C:
  *  - A pointer is not null, also where its length is 0, and points to as many

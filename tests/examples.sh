@@ -1,5 +1,5 @@
 #!/usr/bin/env bash
-# Builds and runs the programs of examples/ over the archive of `rt staticlib honemagenta`. Both print
+# Builds and runs the programs of examples/ over the archive of `tools/build.sh honemagenta`. Both print
 # examples/output.txt, which is the reference's (tests/certificate_cases.sh), and end with status 0. Then the Python
 # module is imported, as a program would.
 set -euo pipefail

@@ -3,7 +3,7 @@
 # against the reference.
 set -eu
 cd "$(dirname "$0")/.."
-rt check certify verify survey tabulate
+tools/build.sh certify verify survey tabulate
 cargo run --release --offline -q --manifest-path tests/reference/Cargo.toml --bin programs -- target/bin
 
 # README's first command shows the certificate alone.

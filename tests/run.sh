@@ -37,6 +37,10 @@ fi
 closing=$(mktemp)
 trap 'rm -f "$closing"' EXIT
 rt ci | tee "$closing"
+if grep -q '^rt: ok.*, [1-9][0-9]* bad' "$closing"; then
+    echo "a must-fail edit is bad: it cannot be applied, compiled or read" >&2
+    exit 1
+fi
 
 # The archive answers as the reference does, also to the programs of examples/. Here the tests from outside are
 # the quick ones.

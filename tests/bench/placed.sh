@@ -14,7 +14,7 @@ libgcc=$(cc -print-libgcc-file-name)
 
 # Proves a crate and takes its object from the static library.
 object_of() {
-    rt staticlib "$1" | tail -1
+    tools/build.sh "$1"
     (cd $made && ar x "../staticlib/lib$1.a" "$1.o")
 }
 

@@ -1,5 +1,5 @@
-//! Links the archives that `rt staticlib honemagenta` and `rt staticlib pair_c`
-//! write to target/staticlib.
+//! Links the archives that `tools/build.sh honemagenta pair_c` writes to
+//! target/staticlib.
 
 use std::path::Path;
 
@@ -10,7 +10,7 @@ fn main() {
         let archive = folder.join(format!("lib{name}.a"));
         assert!(
             archive.exists(),
-            "{} is not there: run `rt staticlib {name}`",
+            "{} is not there: run `tools/build.sh {name}`",
             archive.display()
         );
         println!("cargo:rerun-if-changed={}", archive.display());

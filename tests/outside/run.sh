@@ -4,7 +4,6 @@
 # on other random cases.
 set -eu
 cd "$(dirname "$0")/../.."
-rt staticlib honemagenta
-rt staticlib pair_c
+tools/build.sh honemagenta pair_c
 cargo test --release --offline -q --manifest-path tests/outside/Cargo.toml
 cargo run --release --offline -q --manifest-path tests/outside/Cargo.toml -- "$@"

@@ -1,5 +1,5 @@
 -- When a certificate passes a check, and when it is refused.
-use Prim.Native.Nat.{ℕ, ◌+◌}
+use Prim.Native.Nat.{ℕ}
 use mathlib.Core.List.{List, [], ◌∷◌, ◌++◌}
 use mathlib.Core.Logic.{◌⊎◌, inl, inr, ⊎_elim, ◌↔◌}
 use mathlib.Core.Path.{◌≡◌, refl, sym, ap, ◌∙◌, subst}
@@ -22,7 +22,7 @@ use Rattle.questions.specs.Reasons.{AllSo, Reason, FoundAs, Refuses}
 use Rattle.certificate.specs.Reasons.{lines_of_questions}
 use Rattle.certificate.specs.Certificates.{sheet_values, figure_values, certificate_values, certificate_of, sheet_shown}
 use Rattle.certificate.specs.Outcome.{checking, outcome_of, checked}
-use Rattle.questions.specs.Outcomes.{refused, written, written_if_met, answer_of}
+use Rattle.questions.specs.Outcomes.{written, written_if_met, answer_of}
 use Rattle.certificate.specs.Outcome.{check_outcome}
 use Rattle.certificate.specs.Promises.{lines13, lines_of_checking, Misspelt, Unlike, Issued}
 use Rattle.questions.proofs.Laws.{met_when_so, found_with_reason, found_answered, met_not_refused}

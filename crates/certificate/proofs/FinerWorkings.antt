@@ -1,5 +1,5 @@
 -- Finer workings are held by what is written.
-use Prim.Native.Nat.{ℕ, ◌*◌, ◌+◌}
+use Prim.Native.Nat.{ℕ, ◌*◌}
 use mathlib.Core.List.{List, ◌++◌}
 use mathlib.Core.Path.{◌≡◌, refl, sym, subst}
 use Rattle.section.specs.declared.Sheet.{Sheet}
@@ -10,11 +10,9 @@ use Rattle.section.proofs.Laws.{fineness-Fine, finer_working_held}
 use Rattle.lines.specs.Texts.{lines_text}
 use Rattle.lines.proofs.Laws.{lines_join, reads_values}
 use Rattle.certificate.specs.Keys.{sheet_fields, figure_fields, certificate_fields}
-use Rattle.questions.specs.Asking.{met}
 use Rattle.questions.specs.Reasons.{AllSo}
 use Rattle.certificate.specs.Reasons.{lines_of_questions}
 use Rattle.certificate.specs.Certificates.{sheet_values, figure_values, certificate_values, certificate_of, figures_shown}
-use Rattle.questions.specs.Outcomes.{written}
 use Rattle.certificate.specs.Promises.{Question1, lines_of_writing, HoldsFinerWorkings, own_lines, FinerWorkingsHeld}
 use Rattle.certificate.proofs.Theorems.{so_is_allowed}
 use Rattle.certificate.proofs.Shown.{sheet_back, figures_back, sheet_count, certificate_text_lem}

@@ -27,7 +27,7 @@ use Rattle.certificate.specs.Certificates.{sheet_values, figure_values, certific
 use Rattle.questions.specs.Outcomes.{fitting, written_if_met}
 use Rattle.certificate.specs.Outcome.{question12, writing, outcome_of, outcome_read, outcome}
 use Rattle.questions.specs.Outcomes.{answer_of}
-use Rattle.certificate.specs.MarkedCases.{Says, Each, sheet_a, sheet_b, sheet11, sheet12, sheet13, figures_read, figures_in, figures_b, marked}
+use Rattle.certificate.specs.MarkedCases.{Each, sheet_a, sheet_b, sheet11, sheet12, sheet13, figures_read, figures_in, figures_b, marked}
 
 between : {least x most : ℤ} → leb_ℤ least x ≡ true → leb_ℤ x most ≡ true → (least ≼ℤ x) × (x ≼ℤ most)
 between low high = (leb_ℤ-true _ _ low, leb_ℤ-true _ _ high)

@@ -1,15 +1,14 @@
 -- Refining never goes upward: what the certificates of a sheet and of the same one with more rounds show.
 use Prim.Native.Nat.{ℕ, ◌≤◌}
 use mathlib.Core.List.{List}
-use mathlib.Core.Path.{◌≡◌, refl, sym, ap, ◌∙◌, subst}
+use mathlib.Core.Path.{◌≡◌, sym, ap, ◌∙◌, subst}
 use lib.IntN.{ℤ}
 use Rattle.section.specs.declared.Sheet.{Sheet}
 use Rattle.section.specs.Sheets.{with_rounds}
-use Rattle.section.specs.Sound.{Sound}
 use Rattle.section.specs.Figures.{Printed, own_figures}
 use Rattle.section.specs.Refining.{PrintedNotRaised}
 use Rattle.section.proofs.Laws.{printed_factors_never_rise}
-use Rattle.lines.specs.Reading.{Reading, values, read_lines}
+use Rattle.lines.specs.Reading.{values, read_lines}
 use Rattle.lines.proofs.Laws.{reads_values}
 use Rattle.questions.specs.Outcomes.{written}
 use Rattle.certificate.specs.Keys.{certificate_fields}

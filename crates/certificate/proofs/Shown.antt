@@ -1,5 +1,5 @@
 -- A sheet, its figures, and the lines that show them: each is had back from the other.
-use Prim.Native.Nat.{ℕ, zero, suc, ◌+◌, ◌≤◌, ◌<◌}
+use Prim.Native.Nat.{ℕ, zero, suc, ◌≤◌, ◌<◌}
 use mathlib.Core.List.{List, [], ◌∷◌, ◌++◌, map}
 use mathlib.Core.Logic.{⊎_elim}
 use mathlib.Core.Path.{◌≡◌, refl, sym, ap, ◌∙◌, subst}
@@ -8,7 +8,7 @@ use lib.IntN.{ℤ, pos, nat_abs}
 use lib.ListN.{length, get_or, take, drop, take-append-drop, length-map}
 use Rattle.pair.specs.Forms.{integer, plain}
 use Rattle.pair.specs.declared.signed.Integer.{Integer}
-use Rattle.pair.proofs.Laws.{plain_means, integer-size}
+use Rattle.pair.proofs.Laws.{integer-size}
 use Rattle.section.specs.declared.Sheet.{Sheet}
 use Rattle.section.specs.Sheets.{sheet_lines, sheet_of, values_of}
 use Rattle.section.specs.Sound.{Question2, Sound}

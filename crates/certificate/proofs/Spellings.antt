@@ -5,8 +5,7 @@ use mathlib.Core.Path.{◌≡◌, refl, sym, ap, ◌∙◌}
 use native.Mathlib.Omega.{arith}
 use lib.IntN.{ℤ}
 use lib.ListN.{length, take}
-use Rattle.pair.specs.declared.signed.Integer.{Integer}
-use Rattle.lines.specs.Forms.{integers, array_of}
+use Rattle.lines.specs.Forms.{integers}
 use Rattle.lines.specs.Reading.{Reading, values, bad_line, read_lines}
 use Rattle.lines.proofs.Laws.{array_front, reads_values, spelt_count}
 use Rattle.certificate.specs.declared.reading.Lines.{Lines}

@@ -10,7 +10,7 @@ use Rattle.section.specs.Sound.{Sound}
 use Rattle.section.specs.Figures.{Printed, own_figures, Question11}
 use Rattle.certificate.specs.declared.Refusal.{Refusal}
 use Rattle.questions.specs.Asking.{Finding, refusal, met, first_in}
-use Rattle.certificate.specs.Questions.{question11, on_numbers, questions, first_refusal, rejected, accepted, judged, verdict}
+use Rattle.certificate.specs.Questions.{on_numbers, questions, first_refusal, rejected, accepted, judged, verdict}
 use Rattle.questions.specs.declared.Answer.{Answer}
 use Rattle.questions.specs.Answers.{answer}
 use Rattle.certificate.specs.Refusals.{refusal_answer}

@@ -14,12 +14,12 @@ use Rattle.certificate.specs.Keys.{sheet_fields}
 use Rattle.questions.specs.declared.Answer.{Answer}
 use Rattle.questions.specs.Answers.{answer}
 use Rattle.certificate.specs.Refusals.{refusal_answer}
-use Rattle.questions.specs.Asking.{met, first_in}
+use Rattle.questions.specs.Asking.{first_in}
 use Rattle.questions.specs.Reasons.{AllSo, Refuses}
 use Rattle.certificate.specs.Reasons.{lines_of_questions}
 use Rattle.certificate.specs.Certificates.{sheet_values, certificate_of, sheet_shown}
 use Rattle.certificate.specs.Outcome.{writing, outcome_of, outcome}
-use Rattle.questions.specs.Outcomes.{refused, written, answer_of}
+use Rattle.questions.specs.Outcomes.{written, answer_of}
 use Rattle.certificate.specs.Promises.{Question1, lines12, lines_of_writing, Written, Misspelt, NumbersUnmet, SheetUnmet}
 use Rattle.questions.proofs.Laws.{met_when_so, found_with_reason, found_answered, if_met-written, written_not_refused}
 use Rattle.certificate.proofs.Ties.{writing_told}

@@ -4,7 +4,6 @@ use mathlib.Core.Path.{◌≡◌, subst}
 use native.Mathlib.Nat.{le_refl, le_trans, mul-le-mul_right, div-zero, div-mul-le_self, le-div_iff_mul-le}
 use native.Mathlib.Numerals.{unary_clauses}
 use native.Mathlib.Omega.{arith}
-use Rattle.pair.specs.declared.Pair.{Pair}
 use Rattle.pair.proofs.Laws.{smaller-NotAbove, NotAbove-refl, NotAbove-trans}
 use Rattle.section.specs.declared.Member.{Member}
 use Rattle.section.specs.declared.Sheet.{Sheet}

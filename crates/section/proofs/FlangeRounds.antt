@@ -1,6 +1,6 @@
 -- One flange's part of a round: at m × n it lies inside that at n, where a and J of its stiffener at n are above zero; and it lies in a box and has room.
 -- Both hold for any kf (up to 6, 0 for a flange that is refined alone) and for any o (up to 60 t) as the other flange's g.
-use Prim.Native.Nat.{ℕ, ◌+◌, ◌*◌, ◌≤◌, ◌<◌}
+use Prim.Native.Nat.{ℕ, ◌*◌, ◌<◌}
 use mathlib.Core.Path.{◌≡◌}
 use mathlib.Core.Bool.{true}
 use native.Mathlib.Nat.{mul-pos}

@@ -2,7 +2,7 @@
 //! offer: no file of a library or a program names anything else of another crate's
 //! proofs/, and no specs/ name any of it.
 
-use reference::repository::in_repository;
+use reference::repository::{file_text, in_repository};
 use std::fs;
 use std::path::Path;
 
@@ -23,34 +23,38 @@ fn is_offered(other: &str, file: &str) -> bool {
     file == "Laws" || (other, file) == ("pair", "Numbers") || file.ends_with(".Reads")
 }
 
-/// The files of other crates' proofs/ that a text names and may not. The text is in a
-/// folder of a crate. A file of another crate is `Rattle·OTHER.proofs.FILE`, one of the
-/// same crate `Rattle·OWN·proofs.proofs.FILE`.
-fn past_what_is_offered(folder: &str, text: &str) -> Vec<String> {
+/// Whether the repository has a crate of that name; the others are the toolchain's.
+fn is_ours(name: &str) -> bool {
+    in_repository("crates").join(name).is_dir()
+}
+
+/// The files of other crates' proofs/ that a text names and may not: `Rattle.OTHER.proofs.FILE`.
+/// The text is in a folder of the crate `own`.
+fn past_what_is_offered(own: &str, folder: &str, text: &str) -> Vec<String> {
     let ends = |c: char| c.is_whitespace() || "{;".contains(c);
-    let paths = text.split("Rattle·").skip(1);
+    let paths = text.split("Rattle.").skip(1);
     let paths = paths.filter_map(|path| path.split(ends).next());
     let past = paths.filter(|path| match path.split_once(".proofs.") {
-        Some((other, _)) if other.contains('·') => false,
+        Some((other, _)) if other == own || !is_ours(other) => false,
         Some((other, file)) => folder == "specs" || !is_offered(other, file.trim_end_matches('.')),
         None => false,
     });
     past.map(str::to_string).collect()
 }
 
-/// The same of the files below a folder, each with its name.
-fn past_below(path: &Path, folder: &str) -> Vec<String> {
+/// The same of the files below a folder of the crate `own`, each with its name.
+fn past_below(path: &Path, own: &str, folder: &str) -> Vec<String> {
     let mut past = Vec::new();
     for entry in fs::read_dir(path).expect("a folder") {
         let path = entry.expect("an entry").path();
         if path.is_dir() {
-            past.extend(past_below(&path, folder));
+            past.extend(past_below(&path, own, folder));
         } else if path
             .extension()
             .is_some_and(|end| end == "rt" || end == "antt")
         {
             let text = fs::read_to_string(&path).expect("text");
-            let found = past_what_is_offered(folder, &text).into_iter();
+            let found = past_what_is_offered(own, folder, &text).into_iter();
             let name = path
                 .strip_prefix(in_repository(""))
                 .unwrap_or(&path)
@@ -66,13 +70,15 @@ fn crates_import_what_those_below_offer() {
     let mut past = Vec::new();
     for entry in fs::read_dir(in_repository("crates")).expect("crates/") {
         let entry = entry.expect("an entry");
-        if TESTS.contains(&&*entry.file_name().to_string_lossy()) {
+        let name = entry.file_name();
+        let own = name.to_string_lossy();
+        if TESTS.contains(&&*own) {
             continue;
         }
         for folder in ["src", "specs", "proofs"] {
             let path = entry.path().join(folder);
             if path.exists() {
-                past.extend(past_below(&path, folder));
+                past.extend(past_below(&path, &own, folder));
             }
         }
     }
@@ -83,40 +89,59 @@ fn crates_import_what_those_below_offer() {
 fn planted_imports_are_found() {
     for (line, file) in [
         (
-            "use Rattle·pair.proofs.Nesting as nesting",
+            "use Rattle.pair.proofs.Nesting as nesting",
             "pair.proofs.Nesting",
         ),
-        ("use Rattle·pair.proofs.Tests.{met}", "pair.proofs.Tests."),
+        ("use Rattle.pair.proofs.Tests.{met}", "pair.proofs.Tests."),
         (
-            "pub use Rattle·section.proofs.Numbers.{n}",
+            "pub use Rattle.section.proofs.Numbers.{n}",
             "section.proofs.Numbers.",
         ),
         (
-            "ghost use Rattle·lines.proofs.LawsOfKeys.{a, b};",
+            "ghost use Rattle.lines.proofs.LawsOfKeys.{a, b};",
             "lines.proofs.LawsOfKeys.",
         ),
         (
-            "ghost use Rattle·lines.proofs.Laws.Keys as keys;",
+            "ghost use Rattle.lines.proofs.Laws.Keys as keys;",
             "lines.proofs.Laws.Keys",
         ),
     ] {
         let text = format!("-- Above.\nuse lib.Dec.{{lit<}}\n{line}\n");
-        assert_eq!(past_what_is_offered("proofs", &text), [file]);
+        assert_eq!(past_what_is_offered("catalogue", "proofs", &text), [file]);
     }
-    let laws = "use Rattle·pair.proofs.Laws.{minus-out}\n";
-    assert_eq!(past_what_is_offered("specs", laws), ["pair.proofs.Laws."]);
+    let laws = "use Rattle.pair.proofs.Laws.{minus-out}\n";
+    assert_eq!(
+        past_what_is_offered("catalogue", "specs", laws),
+        ["pair.proofs.Laws."]
+    );
+}
+
+/// How a path is spelt is the toolchain's: were it spelt otherwise, nothing would be found.
+#[test]
+fn imports_of_the_repository_are_seen() {
+    let text = file_text("crates/report/proofs/Promises.antt");
+    let seen = past_what_is_offered("report", "specs", &text);
+    assert!(
+        seen.contains(&"certificate.proofs.Laws.".to_string()),
+        "{seen:?}"
+    );
 }
 
 #[test]
 fn what_is_offered_is_let_pass() {
     for line in [
-        "use Rattle·pair.proofs.Laws.{minus-out}",
-        "use Rattle·pair.proofs.Numbers as numbers",
-        "ghost use Rattle·questions.proofs.Laws.{met};",
-        "use Rattle·certificate.proofs.certificates.write.Reads as write-reads",
-        "use Rattle·section·proofs.proofs.Ends.{finer}",
-        "use Rattle·pair.specs.Pairs.{times}",
+        "use Rattle.pair.proofs.Laws.{minus-out}",
+        "use Rattle.pair.proofs.Numbers as numbers",
+        "ghost use Rattle.questions.proofs.Laws.{met};",
+        "use Rattle.certificate.proofs.certificates.write.Reads as write-reads",
+        "use Rattle.catalogue.proofs.Ends.{finer}",
+        "use Rattle.pair.specs.Pairs.{times}",
+        "use Rattle.std.proofs.Common.{ap}",
     ] {
-        assert_eq!(past_what_is_offered("proofs", line), [""; 0], "{line}");
+        assert_eq!(
+            past_what_is_offered("catalogue", "proofs", line),
+            [""; 0],
+            "{line}"
+        );
     }
 }

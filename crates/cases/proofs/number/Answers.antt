@@ -1,4 +1,3 @@
-use Rattle.std.proofs.Common.{◌-◌, ◌≤◌}
 use Rattle.cases.proofs.number.Goals as goal
 
 pub with_byte-w-requires : goal.with_byte-w-requires

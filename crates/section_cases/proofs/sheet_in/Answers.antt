@@ -1,4 +1,3 @@
-use Prim.Native.Nat.{◌-◌}
 use Rattle.section_cases.proofs.sheet_in.Goals as goal
 
 pub loop-i-init : goal.loop-i-init

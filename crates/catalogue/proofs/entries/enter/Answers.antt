@@ -26,8 +26,8 @@ returns c =
     let row : row_of a.place a.judged ≡ a.place ∷ a.judged.area ∷ a.judged.axial ∷ [] = rw (eq-eqb a.judged.number 0 c.if-judged-ne0.false) in
     let second : a.used + 1 ≡ suc a.used = omega arith in
     let third : a.used + 2 ≡ suc (suc a.used) = omega arith in record {
-    value = omega (arith, ap length row);
-    rows_after = ap (λ (k : ℕ). set (set (set a.rows.now a.used a.place) k a.judged.area) (a.used + 2) a.judged.axial) second
+      value = omega (arith, ap length row);
+      rows_after = ap (λ (k : ℕ). set (set (set a.rows.now a.used a.place) k a.judged.area) (a.used + 2) a.judged.axial) second
           ∙ ap (λ (k : ℕ). set (set (set a.rows.now a.used a.place) (suc a.used) a.judged.area) k a.judged.axial) third
-          ∙ sym (ap (sets a.rows.now a.used) row)
+          ∙ sym (ap (sets a.rows.now a.used) row);
     }

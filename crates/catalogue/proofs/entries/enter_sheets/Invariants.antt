@@ -1,6 +1,5 @@
 -- `entries::enter_sheets` meets its contract. The invariant: `place` sheets are entered, and the next begins at `at`.
-use Prim.Native.Nat.{◌+◌, ◌-◌, ◌*◌, ◌≤◌, ◌<◌}
-use mathlib.Core.Path.{◌≡◌, ◌∙◌}
+use Prim.Native.Nat.{◌-◌}
 use lib.ListN.{length}
 use Rattle.catalogue.proofs.EntryLoop.{Begun}
 use Rattle.catalogue.proofs.entries.enter_sheets.Given as goal

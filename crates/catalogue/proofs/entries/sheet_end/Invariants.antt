@@ -1,6 +1,6 @@
 -- `entries::sheet_end` meets its contract. The invariant: `end` is the place behind i lines.
 use Prim.Native.Nat.{◌+◌, ◌-◌, ◌≤◌}
-use mathlib.Core.Path.{◌≡◌, ◌∙◌}
+use mathlib.Core.Path.{◌≡◌}
 use lib.ListN.{length, drop}
 use Rattle.lines.proofs.Laws.{front}
 use Rattle.section.specs.Sheets.{sheet_lines}

@@ -18,12 +18,15 @@ returns-then-buffer-needed c =
     let text : List ℕ = report_text c.args.numbers c.args.entered.now in
     let above : List ℕ = rows_text (runs 1 c.args.numbers) in
     let rows : List ℕ = rows_text (runs 3 c.args.entered.now) in
-    let needed_is : c.row_length.result + c.row_length-2.result ≡ length text = omega ( arith, c.row_length.ensures.value, c.row_length-2.ensures.value, rows_length 1 c.args.numbers (omega arith), rows_length 3 c.args.entered.now (omega arith), length-append above rows, ) in
-    let l = c in record { value = (answers_refusal report_answer _ _ B (Room (length text))
-    (too_long Room (length B) text (omega (arith, needed_is, c.if-buffer-needed.true)))
-    (c.report_answer.ensures ∙ ap (λ (n : ℕ). report_answer (Room n)) needed_is)).0; buffer_after = (answers_refusal report_answer _ _ B (Room (length text))
-    (too_long Room (length B) text (omega (arith, needed_is, c.if-buffer-needed.true)))
-    (c.report_answer.ensures ∙ ap (λ (n : ℕ). report_answer (Room n)) needed_is)).1 }
+    let needed_is : c.row_length.result + c.row_length-2.result ≡ length text = omega (arith, c.row_length.ensures.value, c.row_length-2.ensures.value, rows_length 1 c.args.numbers (omega arith), rows_length 3 c.args.entered.now (omega arith), length-append above rows) in
+    let l = c in record {
+      value = (answers_refusal report_answer _ _ B (Room (length text))
+          (too_long Room (length B) text (omega (arith, needed_is, c.if-buffer-needed.true)))
+          (c.report_answer.ensures ∙ ap (λ (n : ℕ). report_answer (Room n)) needed_is)).0;
+      buffer_after = (answers_refusal report_answer _ _ B (Room (length text))
+          (too_long Room (length B) text (omega (arith, needed_is, c.if-buffer-needed.true)))
+          (c.report_answer.ensures ∙ ap (λ (n : ℕ). report_answer (Room n)) needed_is)).1;
+    }
 
 pub put_rows-at-requires : goal.put_rows-at-requires
 put_rows-at-requires c =
@@ -31,7 +34,7 @@ put_rows-at-requires c =
     let rows : List ℕ = rows_text (runs 3 c.args.entered.now) in
     let B : List ℕ = c.args.buffer.now in
     let text : List ℕ = report_text c.args.numbers c.args.entered.now in
-    let needed_is : c.row_length.result + c.row_length-2.result ≡ length text = omega ( arith, c.row_length.ensures.value, c.row_length-2.ensures.value, rows_length 1 c.args.numbers (omega arith), rows_length 3 c.args.entered.now (omega arith), length-append above rows, ) in
+    let needed_is : c.row_length.result + c.row_length-2.result ≡ length text = omega (arith, c.row_length.ensures.value, c.row_length-2.ensures.value, rows_length 1 c.args.numbers (omega arith), rows_length 3 c.args.entered.now (omega arith), length-append above rows) in
     let room : length above + length rows ≤ length B = omega (arith, needed_is, c.if-buffer-needed.false, length-append above rows) in record { le_width = omega arith; numbers_in_bounds = omega (arith, room) }
 
 pub slice_bounds-put_rows-count : goal.slice_bounds-put_rows-count
@@ -41,7 +44,7 @@ slice_bounds-put_rows-count c =
     let rows : List ℕ = rows_text (runs 3 c.args.entered.now) in
     let B : List ℕ = c.args.buffer.now in
     let text : List ℕ = report_text c.args.numbers c.args.entered.now in
-    let needed_is : c.row_length.result + c.row_length-2.result ≡ length text = omega ( arith, c.row_length.ensures.value, c.row_length-2.ensures.value, rows_length 1 c.args.numbers (omega arith), rows_length 3 c.args.entered.now (omega arith), length-append above rows, ) in
+    let needed_is : c.row_length.result + c.row_length-2.result ≡ length text = omega (arith, c.row_length.ensures.value, c.row_length-2.ensures.value, rows_length 1 c.args.numbers (omega arith), rows_length 3 c.args.entered.now (omega arith), length-append above rows) in
     let room : length above + length rows ≤ length B = omega (arith, needed_is, c.if-buffer-needed.false, length-append above rows) in
     omega (
       arith,
@@ -57,9 +60,9 @@ slice_bounds-put_rows-start c =
     let rows : List ℕ = rows_text (runs 3 c.args.entered.now) in
     let B : List ℕ = c.args.buffer.now in
     let text : List ℕ = report_text c.args.numbers c.args.entered.now in
-    let needed_is : c.row_length.result + c.row_length-2.result ≡ length text = omega ( arith, c.row_length.ensures.value, c.row_length-2.ensures.value, rows_length 1 c.args.numbers (omega arith), rows_length 3 c.args.entered.now (omega arith), length-append above rows, ) in
+    let needed_is : c.row_length.result + c.row_length-2.result ≡ length text = omega (arith, c.row_length.ensures.value, c.row_length-2.ensures.value, rows_length 1 c.args.numbers (omega arith), rows_length 3 c.args.entered.now (omega arith), length-append above rows) in
     let room : length above + length rows ≤ length B = omega (arith, needed_is, c.if-buffer-needed.false, length-append above rows) in
-    (omega ( arith, head_written, room, written_length above rows B _ _ c.put_rows-at.ensures.value c.put_rows-at.ensures.out_after room, ))
+    (omega (arith, head_written, room, written_length above rows B _ _ c.put_rows-at.ensures.value c.put_rows-at.ensures.out_after room))
 
 pub put_rows-requires : goal.put_rows-requires
 put_rows-requires c =
@@ -67,7 +70,7 @@ put_rows-requires c =
     let rows : List ℕ = rows_text (runs 3 c.args.entered.now) in
     let B : List ℕ = c.args.buffer.now in
     let text : List ℕ = report_text c.args.numbers c.args.entered.now in
-    let needed_is : c.row_length.result + c.row_length-2.result ≡ length text = omega ( arith, c.row_length.ensures.value, c.row_length-2.ensures.value, rows_length 1 c.args.numbers (omega arith), rows_length 3 c.args.entered.now (omega arith), length-append above rows, ) in
+    let needed_is : c.row_length.result + c.row_length-2.result ≡ length text = omega (arith, c.row_length.ensures.value, c.row_length-2.ensures.value, rows_length 1 c.args.numbers (omega arith), rows_length 3 c.args.entered.now (omega arith), length-append above rows) in
     let room : length above + length rows ≤ length B = omega (arith, needed_is, c.if-buffer-needed.false, length-append above rows) in
     let k = c in
     let w = k.put_rows-at in record { le_width = omega arith; numbers_in_bounds = part_room above rows B w.new.out w.result w.ensures.value w.ensures.out_after room }
@@ -79,7 +82,7 @@ overflow_add-n c =
     let rows : List ℕ = rows_text (runs 3 c.args.entered.now) in
     let B : List ℕ = c.args.buffer.now in
     let text : List ℕ = report_text c.args.numbers c.args.entered.now in
-    let needed_is : c.row_length.result + c.row_length-2.result ≡ length text = omega ( arith, c.row_length.ensures.value, c.row_length-2.ensures.value, rows_length 1 c.args.numbers (omega arith), rows_length 3 c.args.entered.now (omega arith), length-append above rows, ) in
+    let needed_is : c.row_length.result + c.row_length-2.result ≡ length text = omega (arith, c.row_length.ensures.value, c.row_length-2.ensures.value, rows_length 1 c.args.numbers (omega arith), rows_length 3 c.args.entered.now (omega arith), length-append above rows) in
     let room : length above + length rows ≤ length B = omega (arith, needed_is, c.if-buffer-needed.false, length-append above rows) in
     let k = c in
     omega (arith, head_written, c.put_rows.ensures.value, room)
@@ -90,17 +93,20 @@ returns c =
     let text : List ℕ = report_text c.args.numbers c.args.entered.now in
     let above : List ℕ = rows_text (runs 1 c.args.numbers) in
     let rows : List ℕ = rows_text (runs 3 c.args.entered.now) in
-    let needed_is : c.row_length.result + c.row_length-2.result ≡ length text = omega ( arith, c.row_length.ensures.value, c.row_length-2.ensures.value, rows_length 1 c.args.numbers (omega arith), rows_length 3 c.args.entered.now (omega arith), length-append above rows, ) in
+    let needed_is : c.row_length.result + c.row_length-2.result ≡ length text = omega (arith, c.row_length.ensures.value, c.row_length-2.ensures.value, rows_length 1 c.args.numbers (omega arith), rows_length 3 c.args.entered.now (omega arith), length-append above rows) in
     let room : length above + length rows ≤ length B = omega (arith, needed_is, c.if-buffer-needed.false, length-append above rows) in
     let k = c in
     let l = c in
     let w = k.put_rows-at in
-    let v = c.put_rows in record { value = (answers_text report_answer _ _ B text _ _
-    (fits Room (length B) text (omega (arith, room, length-append above rows)))
-    (omega (arith, w.ensures.value, v.ensures.value, length-append above rows))
-    c.answer.ensures
-    (part_written above rows B w.new.out w.result w.ensures.value w.ensures.out_after room v.new.out v.ensures.out_after)).0; buffer_after = (answers_text report_answer _ _ B text _ _
-    (fits Room (length B) text (omega (arith, room, length-append above rows)))
-    (omega (arith, w.ensures.value, v.ensures.value, length-append above rows))
-    c.answer.ensures
-    (part_written above rows B w.new.out w.result w.ensures.value w.ensures.out_after room v.new.out v.ensures.out_after)).1 }
+    let v = c.put_rows in record {
+      value = (answers_text report_answer _ _ B text _ _
+          (fits Room (length B) text (omega (arith, room, length-append above rows)))
+          (omega (arith, w.ensures.value, v.ensures.value, length-append above rows))
+          c.answer.ensures
+          (part_written above rows B w.new.out w.result w.ensures.value w.ensures.out_after room v.new.out v.ensures.out_after)).0;
+      buffer_after = (answers_text report_answer _ _ B text _ _
+          (fits Room (length B) text (omega (arith, room, length-append above rows)))
+          (omega (arith, w.ensures.value, v.ensures.value, length-append above rows))
+          c.answer.ensures
+          (part_written above rows B w.new.out w.result w.ensures.value w.ensures.out_after room v.new.out v.ensures.out_after)).1;
+    }

@@ -18,6 +18,6 @@ returns c =
     ∙ ap (λ (x : ℕ). summary_of a.n a.counts x c.column_sum-axial.result) c.column_sum-area.ensures
     ∙ ap (λ (x : ℕ). summary_of a.n a.counts (total 1 (runs 3 E)) x) c.column_sum-axial.ensures in
     let w = c.put.ensures in record {
-    value = w.value ∙ ap (λ (l : List ℕ). answer_in report_answer (fitted_report l E) a.buffer.now) numbers;
-    buffer_after = w.buffer_after ∙ ap (λ (l : List ℕ). buffer_in (fitted_report l E) a.buffer.now) numbers
+      value = w.value ∙ ap (λ (l : List ℕ). answer_in report_answer (fitted_report l E) a.buffer.now) numbers;
+      buffer_after = w.buffer_after ∙ ap (λ (l : List ℕ). buffer_in (fitted_report l E) a.buffer.now) numbers;
     }

@@ -33,7 +33,7 @@ slice_bounds-rows-end c =
     let left : EnteredFrom P (replicate 3000 0) counts rows c.enter_sheets-entered.result = c.enter_sheets-entered.ensures in
     let all : (first_of (question15 P) ≡ met) × (used ≡ length (entries P)) × (counts ≡ counts_of P) × (rows ≡ over (entries P) (replicate 3000 0)) = subst (EnteredFrom P (replicate 3000 0) counts rows) c.in-Rows.is left in
     let entries_below : length (entries P) ≤ 3000 = omega (arith, entries_most 1 P, c.requires.n_value, c.requires.le_n.1) in
-    let used_most : used ≤ length rows = omega ( arith, all.1, ap length all.3, length-over (entries P) (replicate 3000 0) (omega (arith, entries_below, length-replicate {A = ℕ} 3000 0)), entries_below, length-replicate {A = ℕ} 3000 0, ) in
+    let used_most : used ≤ length rows = omega (arith, all.1, ap length all.3, length-over (entries P) (replicate 3000 0) (omega (arith, entries_below, length-replicate {A = ℕ} 3000 0)), entries_below, length-replicate {A = ℕ} 3000 0) in
     used_most
 
 pub slice_bounds-put_entered-end : goal.slice_bounds-put_entered-end
@@ -46,7 +46,7 @@ slice_bounds-put_entered-end c =
     let left : EnteredFrom P (replicate 3000 0) counts rows c.enter_sheets-entered.result = c.enter_sheets-entered.ensures in
     let all : (first_of (question15 P) ≡ met) × (used ≡ length (entries P)) × (counts ≡ counts_of P) × (rows ≡ over (entries P) (replicate 3000 0)) = subst (EnteredFrom P (replicate 3000 0) counts rows) c.in-Rows.is left in
     let entries_below : length (entries P) ≤ 3000 = omega (arith, entries_most 1 P, c.requires.n_value, c.requires.le_n.1) in
-    let used_most : used ≤ length rows = omega ( arith, all.1, ap length all.3, length-over (entries P) (replicate 3000 0) (omega (arith, entries_below, length-replicate {A = ℕ} 3000 0)), entries_below, length-replicate {A = ℕ} 3000 0, ) in
+    let used_most : used ≤ length rows = omega (arith, all.1, ap length all.3, length-over (entries P) (replicate 3000 0) (omega (arith, entries_below, length-replicate {A = ℕ} 3000 0)), entries_below, length-replicate {A = ℕ} 3000 0) in
     sym (length-take-le _ _ used_most)
 
 pub put_entered-requires : goal.put_entered-requires
@@ -64,9 +64,9 @@ put_entered-requires c =
     let k = c in
     let few = c.requires.le_n.1 in
     let back = rows_back in record {
-    entered_len_bound = omega (arith, ap length taken, entries_below);
-    entered_bound = subst (λ (l : List ℕ). total 1 (runs 3 l) < 18446744073709551616) (sym taken) (omega (arith, ap (total 1) back, total_most 1 1 P (omega arith, omega arith), c.requires.n_value, few));
-    entered_bound_2 = subst (λ (l : List ℕ). total 2 (runs 3 l) < 18446744073709551616) (sym taken) (omega (arith, ap (total 2) back, total_most 1 2 P (omega arith, omega arith), c.requires.n_value, few))
+      entered_len_bound = omega (arith, ap length taken, entries_below);
+      entered_bound = subst (λ (l : List ℕ). total 1 (runs 3 l) < 18446744073709551616) (sym taken) (omega (arith, ap (total 1) back, total_most 1 1 P (omega arith, omega arith), c.requires.n_value, few));
+      entered_bound_2 = subst (λ (l : List ℕ). total 2 (runs 3 l) < 18446744073709551616) (sym taken) (omega (arith, ap (total 2) back, total_most 1 2 P (omega arith, omega arith), c.requires.n_value, few));
     }
 
 pub returns-in-Stopped : goal.returns-in-Stopped
@@ -76,11 +76,14 @@ returns-in-Stopped c =
     let s = c in
     let ps = sheets_in s.args.sheets.now in
     let b = s.args.buffer.now in
-    let e = c.enter_sheets-entered in record { value = (answers_refusal report_answer _ _ b _
-    (outcome_15 ps (length b) countable (subst (EnteredFrom ps _ _ _) c.in-Stopped.is e.ensures))
-    c.report_answer.ensures).0; buffer_after = (answers_refusal report_answer _ _ b _
-    (outcome_15 ps (length b) countable (subst (EnteredFrom ps _ _ _) c.in-Stopped.is e.ensures))
-    c.report_answer.ensures).1 }
+    let e = c.enter_sheets-entered in record {
+      value = (answers_refusal report_answer _ _ b _
+          (outcome_15 ps (length b) countable (subst (EnteredFrom ps _ _ _) c.in-Stopped.is e.ensures))
+          c.report_answer.ensures).0;
+      buffer_after = (answers_refusal report_answer _ _ b _
+          (outcome_15 ps (length b) countable (subst (EnteredFrom ps _ _ _) c.in-Stopped.is e.ensures))
+          c.report_answer.ensures).1;
+    }
 
 pub returns-in-Rows : goal.returns-in-Rows
 unfolding report_outcome EnteredFrom
@@ -99,6 +102,6 @@ returns-in-Rows c =
     let b = c.args.buffer.now in
     let o = sym (outcome_fitted P (length b) countable met_all ∙ fitted_is (length b)) in
     let w = c.put_entered.ensures in record {
-    value = w.value ∙ ap (answer_of report_answer) o;
-    buffer_after = w.buffer_after ∙ ap (λ (x : Outcome ReportRefusal). buffer_after x b) o
+      value = w.value ∙ ap (answer_of report_answer) o;
+      buffer_after = w.buffer_after ∙ ap (λ (x : Outcome ReportRefusal). buffer_after x b) o;
     }

@@ -1,6 +1,6 @@
 -- `certificate::certificates::first_unlike` meets its contract.
-use Prim.Native.Nat.{◌+◌, ◌-◌, ◌≤◌, ◌<◌}
-use mathlib.Core.Path.{◌≡◌, ◌∙◌}
+use Prim.Native.Nat.{◌+◌, ◌-◌, ◌≤◌}
+use mathlib.Core.Path.{◌≡◌}
 use lib.ListN.{drop}
 use Rattle.section.specs.Sheets.{sheet_lines}
 use Rattle.lines.specs.Forms.{integers}

@@ -12,6 +12,6 @@ returns c =
     let b = c.args.buffer.now in
     let q = c.sheet_of.ensures in
     let w = c.write_sheet.ensures in record {
-    value = w.value ∙ ap (λ (x : Sheet). answer_of refusal_answer (outcome_of x (length b))) q;
-    buffer_after = w.buffer_after ∙ ap (λ (x : Sheet). buffer_after (outcome_of x (length b)) b) q
+      value = w.value ∙ ap (λ (x : Sheet). answer_of refusal_answer (outcome_of x (length b))) q;
+      buffer_after = w.buffer_after ∙ ap (λ (x : Sheet). buffer_after (outcome_of x (length b)) b) q;
     }

@@ -10,9 +10,12 @@ use Rattle.certificate.proofs.certificates.write.Goals as goal
 
 pub returns-in-BadLine : goal.returns-in-BadLine
 returns-in-BadLine c =
-    let a = c.args in record { value = (answers_refusal refusal_answer _ _ a.buffer.now _
-    (bad_outcome a.sheet.now (length a.buffer.now) _ (sym c.read_sheet-read.ensures ∙ c.in-BadLine.is)) c.refusal_answer.ensures).0; buffer_after = (answers_refusal refusal_answer _ _ a.buffer.now _
-    (bad_outcome a.sheet.now (length a.buffer.now) _ (sym c.read_sheet-read.ensures ∙ c.in-BadLine.is)) c.refusal_answer.ensures).1 }
+    let a = c.args in record {
+      value = (answers_refusal refusal_answer _ _ a.buffer.now _
+          (bad_outcome a.sheet.now (length a.buffer.now) _ (sym c.read_sheet-read.ensures ∙ c.in-BadLine.is)) c.refusal_answer.ensures).0;
+      buffer_after = (answers_refusal refusal_answer _ _ a.buffer.now _
+          (bad_outcome a.sheet.now (length a.buffer.now) _ (sym c.read_sheet-read.ensures ∙ c.in-BadLine.is)) c.refusal_answer.ensures).1;
+    }
 
 pub returns-in-Shown : goal.returns-in-Shown
 returns-in-Shown c =
@@ -20,6 +23,6 @@ returns-in-Shown c =
     let b = a.buffer.now in
     let o = sym (right_outcome a.sheet.now (length b) _ (sym c.read_sheet-read.ensures ∙ c.in-Shown.is)) in
     let w = c.write_sheet.ensures in record {
-    value = w.value ∙ ap (answer_of refusal_answer) o;
-    buffer_after = w.buffer_after ∙ ap (λ (x : Outcome Refusal). buffer_after x b) o
+      value = w.value ∙ ap (answer_of refusal_answer) o;
+      buffer_after = w.buffer_after ∙ ap (λ (x : Outcome Refusal). buffer_after x b) o;
     }

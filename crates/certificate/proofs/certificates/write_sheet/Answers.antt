@@ -31,9 +31,12 @@ put-requires c =
 
 pub returns-in-Refused : goal.returns-in-Refused
 returns-in-Refused c =
-    let a = c.args in record { value = (answers_refusal refusal_answer _ _ a.buffer.now _
-    (refused_by_verdict a.q (length a.buffer.now) (Judged-refusal (verdict a.q) c.verdict_of-verdict.ensures c.in-Refused.is)) c.refusal_answer.ensures).0; buffer_after = (answers_refusal refusal_answer _ _ a.buffer.now _
-    (refused_by_verdict a.q (length a.buffer.now) (Judged-refusal (verdict a.q) c.verdict_of-verdict.ensures c.in-Refused.is)) c.refusal_answer.ensures).1 }
+    let a = c.args in record {
+      value = (answers_refusal refusal_answer _ _ a.buffer.now _
+          (refused_by_verdict a.q (length a.buffer.now) (Judged-refusal (verdict a.q) c.verdict_of-verdict.ensures c.in-Refused.is)) c.refusal_answer.ensures).0;
+      buffer_after = (answers_refusal refusal_answer _ _ a.buffer.now _
+          (refused_by_verdict a.q (length a.buffer.now) (Judged-refusal (verdict a.q) c.verdict_of-verdict.ensures c.in-Refused.is)) c.refusal_answer.ensures).1;
+    }
 
 pub returns-in-Accepted : goal.returns-in-Accepted
 unfolding certificate_values
@@ -44,6 +47,6 @@ returns-in-Accepted c =
     ap (λ (vs : List ℤ). fitted Room (length b) (lines_text certificate_fields vs)) (integers_of (certificate_values a.q) c.line_values.ensures)
     ∙ sym (room_asked a.q (length b) (judged_figures a.q c.verdict_of-verdict.ensures c.in-Accepted.is).0) in
     let w = c.put.ensures in record {
-    value = w.value ∙ ap (answer_of refusal_answer) o;
-    buffer_after = w.buffer_after ∙ ap (λ (x : Outcome Refusal). buffer_after x b) o
+      value = w.value ∙ ap (answer_of refusal_answer) o;
+      buffer_after = w.buffer_after ∙ ap (λ (x : Outcome Refusal). buffer_after x b) o;
     }

@@ -1,6 +1,5 @@
 -- `certificate::reading::read_lines` meets its contract. The invariant: what `Begun` says of the lines read.
-use Prim.Native.Nat.{◌-◌, ◌≤◌, ◌<◌}
-use mathlib.Core.Path.{◌≡◌, ◌∙◌}
+use Prim.Native.Nat.{◌-◌, ◌≤◌}
 use lib.ListN.{length, take}
 use Rattle.lines.proofs.Laws.{Begun}
 use Rattle.certificate.specs.Keys.{certificate_lines, certificate_fields}

@@ -1,7 +1,7 @@
 -- `certificate::reading::sheet_shown` meets its contract. The invariant: the numbers up to place i are the sizes of the values.
 use Prim.Native.Nat.{ℕ, ◌-◌, ◌≤◌, ◌<◌}
 use mathlib.Core.List.{map}
-use mathlib.Core.Path.{◌≡◌, ◌∙◌}
+use mathlib.Core.Path.{◌≡◌}
 use lib.IntN.{nat_abs}
 use lib.ListN.{length, get_or}
 use Rattle.section.specs.Sheets.{sheet_lines}

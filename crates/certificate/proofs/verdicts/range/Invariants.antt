@@ -1,6 +1,6 @@
 -- `certificate::verdicts::range` meets its contract. The loop's invariant: what is found of all values is what is found from here on.
 use Prim.Native.Nat.{◌+◌, ◌-◌, ◌≤◌}
-use mathlib.Core.Path.{◌≡◌, ◌∙◌}
+use mathlib.Core.Path.{◌≡◌}
 use lib.ListN.{drop}
 use Rattle.section.specs.declared.Sheet.{Sheet}
 use Rattle.section.specs.Sheets.{sheet_lines, values_of}

@@ -1,7 +1,7 @@
 -- `certificate::writing::line_values` meets its contract. The invariant: behind the sheet's values stand the figures' up to place i.
-use Prim.Native.Nat.{◌+◌, ◌-◌, ◌≤◌}
+use Prim.Native.Nat.{◌-◌, ◌≤◌}
 use mathlib.Core.List.{List, ◌++◌, map}
-use mathlib.Core.Path.{◌≡◌, ◌∙◌}
+use mathlib.Core.Path.{◌≡◌}
 use lib.IntN.{ℤ}
 use lib.ListN.{length, take}
 use Rattle.pair.specs.Forms.{plain}

@@ -1,7 +1,6 @@
 -- `certificate::writing::put_text` meets its contract. The invariant: the lines before line i stand at the front, and every byte behind is kept.
-use Prim.Native.Nat.{◌+◌, ◌-◌, ◌≤◌, ◌<◌}
-use mathlib.Core.List.{◌++◌}
-use mathlib.Core.Path.{◌≡◌, ◌∙◌}
+use Prim.Native.Nat.{◌-◌, ◌≤◌}
+use mathlib.Core.Path.{◌≡◌}
 use lib.ListN.{length}
 use Rattle.questions.specs.Buffers.{over}
 use Rattle.lines.specs.Forms.{integers}

@@ -1,7 +1,7 @@
 -- `certificate::writing::sheet_values` meets its contract. The invariant: the array holds the values up to place i.
 use Prim.Native.Nat.{◌-◌, ◌≤◌}
-use mathlib.Core.List.{[], map}
-use mathlib.Core.Path.{◌≡◌, ◌∙◌}
+use mathlib.Core.List.{map}
+use mathlib.Core.Path.{◌≡◌}
 use lib.IntN.{pos}
 use lib.ListN.{take}
 use Rattle.section.specs.Sheets.{sheet_lines}

@@ -1,5 +1,4 @@
 use borrow.Author.Rules.{rules}
-use Prim.Native.Nat.{◌+◌, ◌-◌, ◌*◌, ◌≤◌}
 use mathlib.Core.Path.{◌≡◌, sym, ap, ◌∙◌}
 use native.Mathlib.Omega.{arith}
 use lib.ListN.{length, length-append}
@@ -34,6 +33,6 @@ returns c =
     let count : length c.args.values ≡ certificate_lines = search rules in
     let h = c.loop-i in
     let s = c in record {
-    value = h.invariant.1 ∙ ap length (all_lines s.args.values count h.i (omega (arith, c.loop-i-test.false)));
-    upper_bound = omega (arith, h.invariant.0, h.invariant.2)
+      value = h.invariant.1 ∙ ap length (all_lines s.args.values count h.i (omega (arith, c.loop-i-test.false)));
+      upper_bound = omega (arith, h.invariant.0, h.invariant.2);
     }

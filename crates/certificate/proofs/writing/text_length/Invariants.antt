@@ -1,6 +1,6 @@
 -- `certificate::writing::text_length` meets its contract. The invariant: n is the length of the lines before line i.
-use Prim.Native.Nat.{◌+◌, ◌-◌, ◌*◌, ◌≤◌}
-use mathlib.Core.Path.{◌≡◌, ◌∙◌}
+use Prim.Native.Nat.{◌-◌, ◌*◌, ◌≤◌}
+use mathlib.Core.Path.{◌≡◌}
 use lib.ListN.{length}
 use Rattle.lines.specs.Forms.{integers}
 use Rattle.lines.proofs.Laws.{lines_to}

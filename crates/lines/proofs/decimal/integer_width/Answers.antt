@@ -12,6 +12,6 @@ returns-then-has_minus c =
 pub returns : goal.returns
 returns c =
     let text = code_plain_text c.args.v (sym c.has_minus.ensures ∙ c.if-has_minus.false) in record {
-    value = omega (arith, c.width-2.ensures.value, ap length text);
-    upper_bound = omega (arith, c.width-2.ensures.upper_bound)
+      value = omega (arith, c.width-2.ensures.value, ap length text);
+      upper_bound = omega (arith, c.width-2.ensures.upper_bound);
     }

@@ -54,6 +54,6 @@ pub returns : goal.returns
 returns c =
     let small : c.loop-at.left < 10 = one_digit c.loop-at.left (omega (arith, c.loop-at.invariant.0, c.loop-at-test.false)) in
     let h = c.loop-at in record {
-    value = c.width-k.ensures.value;
-    out_after = put_small h.left h.out small ((omega (arith, length_small c.loop-at.left small, c.loop-at.invariant))) ∙ h.invariant.3
+      value = c.width-k.ensures.value;
+      out_after = put_small h.left h.out small ((omega (arith, length_small c.loop-at.left small, c.loop-at.invariant))) ∙ h.invariant.3;
     }

@@ -1,6 +1,6 @@
 -- `decimal::put_decimal` meets its contract. The invariant: with the digits of what is left over its front, the buffer is as it is to be.
-use Prim.Native.Nat.{◌-◌, ◌/◌, ◌≤◌, ◌<◌}
-use mathlib.Core.Path.{◌≡◌, ◌∙◌}
+use Prim.Native.Nat.{◌≤◌}
+use mathlib.Core.Path.{◌≡◌}
 use lib.ListN.{length}
 use Rattle.lines.specs.Decimal.{decimal}
 use Rattle.questions.specs.Buffers.{over}

@@ -83,6 +83,6 @@ returns c =
     let call = c.put_decimal-2 in
     let b = c.args.out.now in
     let text = plain in record {
-    value = call.ensures.value ∙ ap length (sym text);
-    out_after = call.ensures.out_after ∙ ap (λ (l : List ℕ). over l b) (sym text)
+      value = call.ensures.value ∙ ap length (sym text);
+      out_after = call.ensures.out_after ∙ ap (λ (l : List ℕ). over l b) (sym text);
     }

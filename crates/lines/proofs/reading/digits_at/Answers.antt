@@ -27,9 +27,9 @@ returns-then-not-is_digit c =
     let head = c in
     let s = head.args.s.now in
     let no : is_digit b.result ≡ false = sym c.is_digit.ensures ∙ c.if-not-is_digit.true in record {
-    result_value = c.end_at.ensures.result_value
+      result_value = c.end_at.ensures.result_value
           ∙ sym (head.loop-left.invariant.1 ∙ digits_end s head.loop-left.next b.result b.ensures.value head.loop-left.left head.loop-left.n no);
-    plain_within = c.end_at.ensures.plain_within
+      plain_within = c.end_at.ensures.plain_within;
     }
 
 pub overflow_mul-n : goal.overflow_mul-n
@@ -100,6 +100,6 @@ returns c =
     let h = c.loop-left in
     let s = c.args.s.now in
     let none : h.left ≡ 0 = omega (arith, c.loop-left-test.false) in record {
-    result_value = c.end_at-2.ensures.result_value ∙ sym (h.invariant.1 ∙ ap (λ (k : ℕ). read_digits k h.n (drop h.next s)) none);
-    plain_within = c.end_at-2.ensures.plain_within
+      result_value = c.end_at-2.ensures.result_value ∙ sym (h.invariant.1 ∙ ap (λ (k : ℕ). read_digits k h.n (drop h.next s)) none);
+      plain_within = c.end_at-2.ensures.plain_within;
     }

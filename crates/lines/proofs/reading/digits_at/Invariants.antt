@@ -1,6 +1,6 @@
 -- `reading::digits_at` meets its contract. The invariant: the answer is the one from here on, and what is still allowed fits.
-use Prim.Native.Nat.{suc, ◌+◌, ◌-◌, ◌*◌, ◌^◌, ◌≤◌}
-use mathlib.Core.Path.{◌≡◌, ◌∙◌}
+use Prim.Native.Nat.{suc, ◌*◌, ◌^◌, ◌≤◌}
+use mathlib.Core.Path.{◌≡◌}
 use lib.ListN.{drop}
 use Rattle.lines.specs.Texts.{most_digits}
 use Rattle.lines.specs.Reading.{read_digits}

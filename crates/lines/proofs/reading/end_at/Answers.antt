@@ -21,9 +21,9 @@ returns-then-byte_at-eq-NEWLINE c =
     let a = c.args in
     let b = c.byte_at in
     let v : Integer = record { size = a.size; below = false } in record {
-    result_value = ap (λ (z : ℤ). got z (drop (a.at + 1) a.s.now)) (above_is v refl)
+      result_value = ap (λ (z : ℤ). got z (drop (a.at + 1) a.s.now)) (above_is v refl)
           ∙ sym (ended_right a.s.now a.at b.result b.ensures.value (pos a.size) c.if-byte_at-eq-NEWLINE.true);
-    plain_within = (omega (arith, b.ensures.at_in_bounds (omega arith)), above_plain v refl)
+      plain_within = (omega (arith, b.ensures.at_in_bounds (omega arith)), above_plain v refl);
     }
 
 pub returns : goal.returns
@@ -31,6 +31,6 @@ unfolding front PlainWithin
 returns c =
     let a = c.args in
     let b = c.byte_at in record {
-    result_value = sym (ended-bad a.s.now a.at b.result b.ensures.value (pos a.size) c.if-byte_at-eq-NEWLINE.false);
-    plain_within = tt
+      result_value = sym (ended-bad a.s.now a.at b.result b.ensures.value (pos a.size) c.if-byte_at-eq-NEWLINE.false);
+      plain_within = tt;
     }

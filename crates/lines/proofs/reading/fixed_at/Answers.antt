@@ -28,9 +28,9 @@ returns-then-not-is_digit c =
     let s = head.args.s.now in
     let no : is_digit b.result ≡ false = sym c.is_digit.ensures ∙ c.if-not-is_digit.true in
     let one_less : head.loop-left.left ≡ suc (head.loop-left.left - 1) = omega (arith, c.loop-left-test.true) in record {
-    result_value = sym (head.loop-left.invariant.1 ∙ ap (λ (k : ℕ). read_fixed k head.loop-left.n (drop head.loop-left.next s)) one_less
+      result_value = sym (head.loop-left.invariant.1 ∙ ap (λ (k : ℕ). read_fixed k head.loop-left.n (drop head.loop-left.next s)) one_less
           ∙ fixed_bad s head.loop-left.next b.result b.ensures.value (head.loop-left.left - 1) head.loop-left.n no);
-    plain_within = tt
+      plain_within = tt;
     }
 
 pub overflow_mul-n : goal.overflow_mul-n
@@ -105,6 +105,6 @@ returns c =
     let h = c.loop-left in
     let s = c.args.s.now in
     let none : h.left ≡ 0 = omega (arith, c.loop-left-test.false) in record {
-    result_value = c.end_at.ensures.result_value ∙ sym (h.invariant.1 ∙ ap (λ (k : ℕ). read_fixed k h.n (drop h.next s)) none);
-    plain_within = c.end_at.ensures.plain_within
+      result_value = c.end_at.ensures.result_value ∙ sym (h.invariant.1 ∙ ap (λ (k : ℕ). read_fixed k h.n (drop h.next s)) none);
+      plain_within = c.end_at.ensures.plain_within;
     }

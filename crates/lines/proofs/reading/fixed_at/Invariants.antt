@@ -1,6 +1,6 @@
 -- `reading::fixed_at` meets its contract. The invariant: the answer is the one from here on, and what is still allowed fits.
-use Prim.Native.Nat.{suc, ◌+◌, ◌-◌, ◌*◌, ◌^◌, ◌≤◌, ◌<◌}
-use mathlib.Core.Path.{◌≡◌, ◌∙◌}
+use Prim.Native.Nat.{suc, ◌*◌, ◌^◌, ◌≤◌}
+use mathlib.Core.Path.{◌≡◌}
 use lib.ListN.{drop}
 use Rattle.lines.specs.Decimal.{most_fixed}
 use Rattle.lines.specs.Reading.{read_fixed}

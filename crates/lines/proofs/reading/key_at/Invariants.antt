@@ -1,6 +1,6 @@
 -- `reading::key_at` meets its contract. The invariant: the answer is the one from byte j on.
-use Prim.Native.Nat.{◌+◌, ◌-◌, ◌≤◌, ◌<◌}
-use mathlib.Core.Path.{◌≡◌, ◌∙◌}
+use Prim.Native.Nat.{◌+◌, ◌-◌, ◌≤◌}
+use mathlib.Core.Path.{◌≡◌}
 use lib.ListN.{length, drop}
 use Rattle.lines.specs.Reading.{begins}
 use Rattle.lines.proofs.reading.key_at.Given as goal

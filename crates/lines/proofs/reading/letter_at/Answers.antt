@@ -11,16 +11,16 @@ returns-then-s-at c = let a = c.args in record { result_value = sym (letter_none
 pub returns-then-b-zero : goal.returns-then-b-zero
 returns-then-b-zero c =
     let a = c.args in record {
-    result_value = c.end_at.ensures.result_value ∙ sym (letter_first a.s.now a.at _ refl a.zero a.one c.if-b-zero.true);
-    plain_within = c.end_at.ensures.plain_within
+      result_value = c.end_at.ensures.result_value ∙ sym (letter_first a.s.now a.at _ refl a.zero a.one c.if-b-zero.true);
+      plain_within = c.end_at.ensures.plain_within;
     }
 
 pub returns-then-b-one : goal.returns-then-b-one
 returns-then-b-one c =
     let a = c.args in record {
-    result_value = c.end_at-then-b-one.ensures.result_value
+      result_value = c.end_at-then-b-one.ensures.result_value
           ∙ sym (letter_second a.s.now a.at _ refl a.zero a.one c.if-b-zero.false c.if-b-one.true);
-    plain_within = c.end_at-then-b-one.ensures.plain_within
+      plain_within = c.end_at-then-b-one.ensures.plain_within;
     }
 
 pub returns : goal.returns

@@ -32,11 +32,11 @@ returns-then-key_at c =
     let start = found in
     let F = field start.args.key in
     let s = start.args.s.now in record {
-    result_value = c.value_at.ensures.result_value
+      result_value = c.value_at.ensures.result_value
           ∙ ap (λ (n : ℕ). read_value F.kind (drop (start.args.at + n) s)) found.key_length-n.ensures.value
           ∙ sym (line_right F (drop start.args.at s) (key-found ∙ c.if-key_at.true)
           ∙ ap (read_value F.kind) (drop-drop _ start.args.at s));
-    plain_within = c.value_at.ensures.plain_within
+      plain_within = c.value_at.ensures.plain_within;
     }
 
 pub returns : goal.returns
@@ -44,6 +44,6 @@ unfolding front PlainWithin
 returns c =
     let key-found : begins (field c.args.key).key (drop c.args.at c.args.s.now) ≡ c.key_at.result = let start = c in ap (λ (k : List ℕ). begins k (drop start.args.at start.args.s.now)) (sym c.key_length-n.ensures.text_value) ∙ sym c.key_at.ensures in
     let start = c in record {
-    result_value = sym (line_wrong (field start.args.key) (drop start.args.at start.args.s.now) (key-found ∙ c.if-key_at.false));
-    plain_within = tt
+      result_value = sym (line_wrong (field start.args.key) (drop start.args.at start.args.s.now) (key-found ∙ c.if-key_at.false));
+      plain_within = tt;
     }

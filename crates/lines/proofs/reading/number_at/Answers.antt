@@ -17,8 +17,8 @@ unfolding read_digits
 returns-then-b-eq48 c =
     let a = c.args in
     let b = c.byte_at-b in record {
-    result_value = c.digits_at.ensures.result_value ∙ sym (number_zero a.s.now a.at b.result b.ensures.value c.if-b-eq48.true);
-    plain_within = c.digits_at.ensures.plain_within
+      result_value = c.digits_at.ensures.result_value ∙ sym (number_zero a.s.now a.at b.result b.ensures.value c.if-b-eq48.true);
+      plain_within = c.digits_at.ensures.plain_within;
     }
 
 pub overflow_add-at-then-is_digit : goal.overflow_add-at-then-is_digit
@@ -48,9 +48,9 @@ returns-then-is_digit c =
     let digit : is_digit byte ≡ true = sym c.is_digit.ensures ∙ c.if-is_digit.true in
     let a = c.args in
     let b = c.byte_at-b in record {
-    result_value = c.digits_at-then-is_digit.ensures.result_value
+      result_value = c.digits_at-then-is_digit.ensures.result_value
           ∙ sym (number_more a.s.now a.at b.result b.ensures.value c.if-b-eq48.false digit);
-    plain_within = c.digits_at-then-is_digit.ensures.plain_within
+      plain_within = c.digits_at-then-is_digit.ensures.plain_within;
     }
 
 pub returns : goal.returns
@@ -58,6 +58,6 @@ unfolding front PlainWithin
 returns c =
     let a = c.args in
     let b = c.byte_at-b in record {
-    result_value = sym (number_bad a.s.now a.at b.result b.ensures.value c.if-b-eq48.false (sym c.is_digit.ensures ∙ c.if-is_digit.false));
-    plain_within = tt
+      result_value = sym (number_bad a.s.now a.at b.result b.ensures.value c.if-b-eq48.false (sym c.is_digit.ensures ∙ c.if-is_digit.false));
+      plain_within = tt;
     }

@@ -18,8 +18,8 @@ pub returns-then-byte_at-ne45 : goal.returns-then-byte_at-ne45
 returns-then-byte_at-ne45 c =
     let a = c.args in
     let b = c.byte_at in record {
-    result_value = c.number_at.ensures.result_value ∙ sym (signed_plain a.s.now a.at b.result b.ensures.value c.if-byte_at-ne45.true);
-    plain_within = c.number_at.ensures.plain_within
+      result_value = c.number_at.ensures.result_value ∙ sym (signed_plain a.s.now a.at b.result b.ensures.value c.if-byte_at-ne45.true);
+      plain_within = c.number_at.ensures.plain_within;
     }
 
 pub overflow_add-at : goal.overflow_add-at
@@ -34,8 +34,8 @@ returns-then-size-eq0 c =
     let next : ℕ = c.in-Got.next in
     let number_found : read_number (drop (c.args.at + 1) S) ≡ got (integer found) (drop next S) = sym c.number_at-number.ensures.result_value ∙ ap (front S) c.in-Got.is in
     let f = c in record {
-    result_value = sym (below ∙ negated-zero _ (integer found) _ number_found (integer-size found ∙ c.if-size-eq0.true));
-    plain_within = tt
+      result_value = sym (below ∙ negated-zero _ (integer found) _ number_found (integer-size found ∙ c.if-size-eq0.true));
+      plain_within = tt;
     }
 
 pub returns-else-size-eq0 : goal.returns-else-size-eq0
@@ -50,10 +50,10 @@ returns-else-size-eq0 c =
     let f = c in
     let size = integer-size found in
     let v : Integer = record { size = found.size; below = true } in record {
-    result_value = ap (λ (z : ℤ). got z (drop next S)) (below_is v refl)
+      result_value = ap (λ (z : ℤ). got z (drop next S)) (below_is v refl)
           ∙ sym (below ∙ negated_more _ (integer found) _ number_found (λ e. c.if-size-eq0.false (sym size ∙ e))
           ∙ ap (λ (n : ℕ). got (neg_ℤ (pos n)) (drop next S)) size);
-    plain_within = (within, plain_is v (λ e. omega (arith, c.if-size-eq0.false)))
+      plain_within = (within, plain_is v (λ e. omega (arith, c.if-size-eq0.false)));
     }
 
 pub returns-in-Bad : goal.returns-in-Bad

@@ -34,8 +34,8 @@ returns c =
     let room : length (decimal c.args.n) + 1 ≤ length c.args.out.now = omega (arith, length_snoc (decimal c.args.n) c.args.end, c.requires) in
     let call = c.put_decimal-at in
     let end = c.args.end in record {
-    value = omega (arith, call.ensures.value, length_snoc text end);
-    out_after = ap (λ (l : List ℕ). set l call.result end) call.ensures.out_after
+      value = omega (arith, call.ensures.value, length_snoc text end);
+      out_after = ap (λ (l : List ℕ). set l call.result end) call.ensures.out_after
           ∙ ap (λ (k : ℕ). set (over text B) k end) call.ensures.value
-          ∙ over-set text B end (omega (arith, room))
+          ∙ over-set text B end (omega (arith, room));
     }

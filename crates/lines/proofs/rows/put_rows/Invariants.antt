@@ -1,5 +1,5 @@
 -- `rows::put_rows` meets its contract. The invariant: the numbers before number i stand in rows at the front, and every byte behind is kept.
-use Prim.Native.Nat.{◌+◌, ◌-◌, ◌≤◌}
+use Prim.Native.Nat.{◌-◌, ◌≤◌}
 use lib.ListN.{length}
 use Rattle.lines.proofs.RunLaws.{RowsBegun}
 use Rattle.lines.proofs.rows.put_rows.Given as goal

@@ -1,5 +1,5 @@
-use Prim.Native.Nat.{◌-◌, ◌*◌, ◌≤◌}
-use mathlib.Core.Path.{◌≡◌, sym, ap, ◌∙◌}
+use Prim.Native.Nat.{◌≤◌}
+use mathlib.Core.Path.{sym, ap, ◌∙◌}
 use native.Mathlib.Omega.{arith}
 use lib.ListN.{length}
 use Rattle.lines.proofs.RowLaws.{row_none, row_grows, row_all}
@@ -45,6 +45,6 @@ loop-i-preserved c =
 pub returns : goal.returns
 returns c =
     let h = c.loop-i in record {
-    value = h.invariant.1 ∙ ap length (row_all h.i c.args.numbers.now c.loop-i-test.false);
-    upper_bound = omega (arith, h.invariant.0, h.invariant.2)
+      value = h.invariant.1 ∙ ap length (row_all h.i c.args.numbers.now c.loop-i-test.false);
+      upper_bound = omega (arith, h.invariant.0, h.invariant.2);
     }

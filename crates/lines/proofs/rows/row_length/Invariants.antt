@@ -1,6 +1,6 @@
 -- `rows::row_length` meets its contract. The invariant: n is the length of the first i numbers.
 use Prim.Native.Nat.{◌-◌, ◌*◌, ◌≤◌}
-use mathlib.Core.Path.{◌≡◌, ◌∙◌}
+use mathlib.Core.Path.{◌≡◌}
 use lib.ListN.{length}
 use Rattle.lines.proofs.RowLaws.{row_front}
 use Rattle.lines.proofs.rows.row_length.Given as goal

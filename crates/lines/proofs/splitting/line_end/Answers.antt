@@ -1,5 +1,4 @@
-use Prim.Native.Nat.{◌-◌, ◌≤◌}
-use mathlib.Core.Path.{◌≡◌, refl, sym, ◌∙◌}
+use mathlib.Core.Path.{refl, sym, ◌∙◌}
 use native.Mathlib.Omega.{arith}
 use Rattle.lines.proofs.SplitLaws.{end_none, end_here, end_more}
 use Rattle.lines.proofs.splitting.line_end.Goals as goal
@@ -17,8 +16,8 @@ pub returns-then-s-next-eq-NEWLINE : goal.returns-then-s-next-eq-NEWLINE
 returns-then-s-next-eq-NEWLINE c =
     let h = c.loop-next in
     let s = c.args.s.now in record {
-    value = sym (h.invariant.1 ∙ end_here s h.next c.loop-next-test.true c.if-s-next-eq-NEWLINE.true);
-    upper_bound = omega (arith, c.loop-next-test.true)
+      value = sym (h.invariant.1 ∙ end_here s h.next c.loop-next-test.true c.if-s-next-eq-NEWLINE.true);
+      upper_bound = omega (arith, c.loop-next-test.true);
     }
 
 pub overflow_add-next : goal.overflow_add-next

@@ -1,6 +1,6 @@
 -- `splitting::line_end` meets its contract. The invariant: the line that goes on here ends where the line asked for does.
 use Prim.Native.Nat.{◌-◌, ◌≤◌}
-use mathlib.Core.Path.{◌≡◌, ◌∙◌}
+use mathlib.Core.Path.{◌≡◌}
 use lib.ListN.{length}
 use Rattle.lines.specs.Splitting.{line_end}
 use Rattle.lines.proofs.splitting.line_end.Given as goal

@@ -16,13 +16,13 @@ returns-then-n-eq0 c =
 pub returns-then-s-last-eq-NEWLINE : goal.returns-then-s-last-eq-NEWLINE
 returns-then-s-last-eq-NEWLINE c =
     let s = c.args.s.now in record {
-    value = sym (unended_last s (omega arith) ∙ rw (eq-eqb (get_or s (length s - 1) 0) newline c.if-s-last-eq-NEWLINE.true));
-    upper_bound = omega arith
+      value = sym (unended_last s (omega arith) ∙ rw (eq-eqb (get_or s (length s - 1) 0) newline c.if-s-last-eq-NEWLINE.true));
+      upper_bound = omega arith;
     }
 
 pub returns : goal.returns
 returns c =
     let s = c.args.s.now in record {
-    value = sym (unended_last s (omega arith) ∙ rw (ne_eqb (get_or s (length s - 1) 0) newline c.if-s-last-eq-NEWLINE.false));
-    upper_bound = omega arith
+      value = sym (unended_last s (omega arith) ∙ rw (ne_eqb (get_or s (length s - 1) 0) newline c.if-s-last-eq-NEWLINE.false));
+      upper_bound = omega arith;
     }

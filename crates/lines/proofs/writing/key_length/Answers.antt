@@ -11,9 +11,9 @@ pub returns-then-n-lt8 : goal.returns-then-n-lt8
 unfolding field
 returns-then-n-lt8 c =
     let row_count : length c.args.key.text ≡ 8 = search rules in record {
-    text_value = refl;
-    value = sym (length-take-le _ _ (omega (arith, c.if-n-lt8.true, row_count)));
-    upper_bound = omega (arith, c.if-n-lt8.true)
+      text_value = refl;
+      value = sym (length-take-le _ _ (omega (arith, c.if-n-lt8.true, row_count)));
+      upper_bound = omega (arith, c.if-n-lt8.true);
     }
 
 pub returns : goal.returns
@@ -22,7 +22,7 @@ returns c =
     let row_count : length c.args.key.text ≡ 8 = search rules in
     let text = c.args.key.text in
     let whole = take_all c.args.key.length text (omega (arith, c.if-n-lt8.false, row_count)) in record {
-    text_value = take_all 8 text (omega (arith, row_count)) ∙ sym whole;
-    value = sym (ap length whole ∙ row_count);
-    upper_bound = omega arith
+      text_value = take_all 8 text (omega (arith, row_count)) ∙ sym whole;
+      value = sym (ap length whole ∙ row_count);
+      upper_bound = omega arith;
     }

@@ -10,6 +10,6 @@ unfolding field
 returns c =
     let a = c.args in
     let k = c.key_length in record {
-    value = omega (arith, line_size (field a.key) (integer a.v), k.ensures.value, c.value_width.ensures.value);
-    upper_bound = omega (arith, k.ensures.upper_bound, c.value_width.ensures.upper_bound)
+      value = omega (arith, line_size (field a.key) (integer a.v), k.ensures.value, c.value_width.ensures.value);
+      upper_bound = omega (arith, k.ensures.upper_bound, c.value_width.ensures.upper_bound);
     }

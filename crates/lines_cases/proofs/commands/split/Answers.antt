@@ -1,4 +1,3 @@
-use Prim.Native.Nat.{◌-◌, ◌≤◌}
 use native.Mathlib.Omega.{arith}
 use Rattle.lines.proofs.Laws.{end_behind}
 use Rattle.lines_cases.proofs.commands.split.Goals as goal
@@ -18,4 +17,3 @@ loop-at-smaller g c =
 
 pub loop-at-preserved : goal.loop-at-preserved
 loop-at-preserved g c = c.line_end-at.ensures.upper_bound
-

@@ -1,5 +1,4 @@
 use borrow.Author.Rules.{rules}
-use Prim.Native.Nat.{◌-◌, ◌*◌, ◌≤◌}
 use mathlib.Core.Path.{◌≡◌, sym, ap, ◌∙◌}
 use native.Mathlib.Omega.{arith}
 use lib.ListN.{length, length-map, length-append}
@@ -61,7 +60,7 @@ returns c =
     let count : length c.args.values ≡ 5 = search rules in
     let h = c.loop-i in
     let vs = c.args.values in record {
-    value = h.invariant.1 ∙ ap length (lines_all table (integers vs) h.i c.loop-i-test.false
+      value = h.invariant.1 ∙ ap length (lines_all table (integers vs) h.i c.loop-i-test.false
           (omega (arith, count, length-map vs integer, c.loop-i-test.false)));
-    upper_bound = omega (arith, h.invariant.0, h.invariant.2)
+      upper_bound = omega (arith, h.invariant.0, h.invariant.2);
     }

@@ -1,6 +1,6 @@
 -- `table::lines_length` meets its contract. The invariant: n is the length of the first i lines.
 use Prim.Native.Nat.{◌-◌, ◌*◌, ◌≤◌}
-use mathlib.Core.Path.{◌≡◌, ◌∙◌}
+use mathlib.Core.Path.{◌≡◌}
 use lib.ListN.{length}
 use Rattle.lines.specs.Forms.{integers}
 use Rattle.lines.proofs.Laws.{lines_to}

@@ -1,6 +1,5 @@
 -- `table::read_lines` meets its contract. The invariant: what `Begun` says of the lines read.
-use Prim.Native.Nat.{◌-◌, ◌≤◌, ◌<◌}
-use mathlib.Core.Path.{◌≡◌, ◌∙◌}
+use Prim.Native.Nat.{◌-◌, ◌≤◌}
 use lib.ListN.{length}
 use Rattle.lines.proofs.Laws.{Begun}
 use Rattle.lines_cases.specs.Table.{table}

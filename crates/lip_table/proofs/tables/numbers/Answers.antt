@@ -1,4 +1,3 @@
-use Prim.Native.Nat.{◌-◌, ◌≤◌}
 use native.Mathlib.Omega.{arith}
 use Rattle.lip_table.proofs.TableTexts.{Filled-none, Filled-more, filled_all}
 use Rattle.lip_table.proofs.tables.numbers.Goals as goal

@@ -15,9 +15,9 @@ returns-then-buffer-lt-TABLE_LENGTH c = let r = table_refused c.args.buffer.now 
 
 pub put_rows-n-requires : goal.put_rows-n-requires
 put_rows-n-requires c = record {
-    le_width = omega arith;
-    numbers_in_bounds = omega (arith, ap length (text_of_numbers c.numbers-numbers.ensures), table_length_lem, c.if-buffer-lt-TABLE_LENGTH.false)
-    }
+  le_width = omega arith;
+  numbers_in_bounds = omega (arith, ap length (text_of_numbers c.numbers-numbers.ensures), table_length_lem, c.if-buffer-lt-TABLE_LENGTH.false);
+}
 
 pub returns : goal.returns
 returns c =
@@ -26,6 +26,6 @@ returns c =
     let B = n.args.buffer.now in
     let text = text_of_numbers n.numbers-numbers.ensures in
     let r = table_written B (omega (arith, n.if-buffer-lt-TABLE_LENGTH.false)) in record {
-    value = c.answer.ensures ∙ ap (answer 0 0) (w.put_rows-n.ensures.value ∙ ap length text ∙ table_length_lem) ∙ r.0;
-    buffer_after = w.put_rows-n.ensures.out_after ∙ ap (λ (t : List ℕ). over t B) text ∙ r.1
+      value = c.answer.ensures ∙ ap (answer 0 0) (w.put_rows-n.ensures.value ∙ ap length text ∙ table_length_lem) ∙ r.0;
+      buffer_after = w.put_rows-n.ensures.out_after ∙ ap (λ (t : List ℕ). over t B) text ∙ r.1;
     }

@@ -1,6 +1,6 @@
 -- `pair::roots::cube_of` meets its contract. The loop's invariant: the root so far is that of the digits taken in.
 use mathlib.Core.Path.{◌≡◌}
-use Prim.Native.Nat.{◌-◌, ◌*◌, ◌/◌, ◌%◌, ◌^◌, ◌≤◌}
+use Prim.Native.Nat.{◌/◌, ◌%◌, ◌^◌, ◌≤◌}
 use Rattle.pair.specs.Remainders.{CubeRooted}
 use Rattle.pair.proofs.roots.cube_of.Given as goal
 

@@ -1,6 +1,6 @@
 -- `pair::roots::squares_by_bits` meets its contract. The loop's invariant: each root so far is that of the digits taken in.
 use mathlib.Core.Path.{◌≡◌}
-use Prim.Native.Nat.{◌-◌, ◌*◌, ◌/◌, ◌%◌, ◌^◌, ◌≤◌, ◌<◌}
+use Prim.Native.Nat.{◌/◌, ◌%◌, ◌^◌, ◌≤◌}
 use Rattle.pair.specs.Remainders.{SquareRooted}
 use Rattle.pair.proofs.roots.squares_by_bits.Given as goal
 

@@ -30,9 +30,9 @@ returns-then-answer-ne0 c =
     let put = c.put_refusal.ensures in
     let h = refusal_printed refusal_answer refusal_numbered o B (λ e. c.if-answer-ne0.true (ap (λ (a : Answer). a.refusal) answered ∙ e)) in
     let lines : refusal_lines w.write-answer.result ≡ certify_prints S = ap refusal_lines answered ∙ h.0 in record {
-    value = put.value ∙ ap length lines;
-    out_after = put.out_after ∙ ap (λ (l : List ℕ). over l w.write-answer.new.buffer) lines ∙ ap (over (certify_prints S)) (left ∙ h.1);
-    value_2 = search rules
+      value = put.value ∙ ap length lines;
+      out_after = put.out_after ∙ ap (λ (l : List ℕ). over l w.write-answer.new.buffer) lines ∙ ap (over (certify_prints S)) (left ∙ h.1);
+      value_2 = search rules;
     }
 
 pub returns : goal.returns

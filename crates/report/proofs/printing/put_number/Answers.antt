@@ -1,5 +1,5 @@
 -- `printing::put_number` meets its contract.
-use Prim.Native.Nat.{ℕ, ◌+◌, ◌≤◌}
+use Prim.Native.Nat.{ℕ}
 use mathlib.Core.Bool.{false}
 use mathlib.Core.List.{List}
 use mathlib.Core.Path.{◌≡◌, refl, ap, ◌∙◌}
@@ -25,7 +25,7 @@ returns c =
     let line-is : line_text (field c.args.key) (integer (record { below = false; size = c.args.n })) ≡ line_text (field c.args.key) (pos c.args.n) = ap (line_text (field c.args.key)) (above_is (record { below = false; size = c.args.n }) refl) in
     let s = c in
     let w = c.put_line.ensures in record {
-    value = w.value ∙ ap length line-is;
-    upper_bound = omega (arith, w.value, ap length line-is, number_line_lem (field s.args.key) s.args.n s.requires.0 (omega (arith, s.ranges.n)));
-    out_after = w.out_after ∙ ap (λ (l : List ℕ). over l s.args.out.now) line-is
+      value = w.value ∙ ap length line-is;
+      upper_bound = omega (arith, w.value, ap length line-is, number_line_lem (field s.args.key) s.args.n s.requires.0 (omega (arith, s.ranges.n)));
+      out_after = w.out_after ∙ ap (λ (l : List ℕ). over l s.args.out.now) line-is;
     }

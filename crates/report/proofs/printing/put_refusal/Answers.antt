@@ -47,7 +47,7 @@ returns c =
     let two = c.put_number in
     let first = number_line "refused=" start.args.answer.refusal in
     let second = number_line "line=" start.args.answer.line in record {
-    value = omega (arith, one.ensures.value, two.ensures.value, length-append first second);
-    out_after = part_written first second start.args.out.now one.new.out one.result one.ensures.value one.ensures.out_after
-          (omega (arith, one.ensures, two.ensures, start.requires)) two.new.out two.ensures.out_after
+      value = omega (arith, one.ensures.value, two.ensures.value, length-append first second);
+      out_after = part_written first second start.args.out.now one.new.out one.result one.ensures.value one.ensures.out_after
+          (omega (arith, one.ensures, two.ensures, start.requires)) two.new.out two.ensures.out_after;
     }

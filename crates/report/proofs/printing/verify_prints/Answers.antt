@@ -17,9 +17,9 @@ returns-then-answer-ne0 c =
     let call = c in
     let put = c.put_refusal.ensures in
     let lines = sym (refusal_prints call.check-answer.result c.if-answer-ne0.true) ∙ prints in record {
-    value = put.value ∙ ap length lines;
-    out_after = put.out_after ∙ ap (λ (l : List ℕ). over l call.args.out.now) lines;
-    value_2 = search rules
+      value = put.value ∙ ap length lines;
+      out_after = put.out_after ∙ ap (λ (l : List ℕ). over l call.args.out.now) lines;
+      value_2 = search rules;
     }
 
 pub put_number-requires : goal.put_number-requires
@@ -33,7 +33,7 @@ returns c =
     let call = c in
     let put = c.put_number.ensures in
     let line = sym (passed_prints call.check-answer.result c.if-answer-ne0.false) ∙ prints in record {
-    value = put.value ∙ ap length line;
-    out_after = put.out_after ∙ ap (λ (l : List ℕ). over l call.args.out.now) line;
-    value_2 = search rules
+      value = put.value ∙ ap length line;
+      out_after = put.out_after ∙ ap (λ (l : List ℕ). over l call.args.out.now) line;
+      value_2 = search rules;
     }

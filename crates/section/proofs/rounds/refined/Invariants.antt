@@ -1,5 +1,5 @@
 -- `section::rounds::refined` meets its contract. The loop's invariant: r is the round after i refinings, and its factors are at most 1.
-use mathlib.Core.Path.{◌≡◌, ◌∙◌}
+use mathlib.Core.Path.{◌≡◌}
 use Prim.Native.Nat.{◌-◌, ◌≤◌}
 use Rattle.section.specs.Working.{rounds}
 use Rattle.section.specs.Room.{FactorsMost}

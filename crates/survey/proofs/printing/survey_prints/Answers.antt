@@ -24,9 +24,9 @@ returns-then-sheet_count-gt-MOST_SHEETS c =
     let refusal_lines_lem : refusal_lines c.report_answer-many.result ≡ kept_prints c.args.kept.now c.args.lines = ap refusal_lines c.report_answer-many.ensures ∙ sym (too_many c.args.kept.now c.args.lines (omega arith)) in
     let a = c in
     let put = c.put_refusal.ensures in record {
-    value = put.value ∙ ap length refusal_lines_lem;
-    out_after = put.out_after ∙ ap (λ (l : List ℕ). over l c.args.out.now) refusal_lines_lem;
-    value_2 = search rules
+      value = put.value ∙ ap length refusal_lines_lem;
+      out_after = put.out_after ∙ ap (λ (l : List ℕ). over l c.args.out.now) refusal_lines_lem;
+      value_2 = search rules;
     }
 
 pub returns-then-answer-ne0 : goal.returns-then-answer-ne0
@@ -44,9 +44,9 @@ returns-then-answer-ne0 c =
     let w = c in
     let n = c.if-answer-ne0.true in
     let put = c.put_refusal-then-answer-ne0.ensures in record {
-    value = put.value ∙ ap length (answer_lines n);
-    out_after = put.out_after ∙ ap₂ over (answer_lines n) (left ∙ (refused_so n).1);
-    value_2 = search rules
+      value = put.value ∙ ap length (answer_lines n);
+      out_after = put.out_after ∙ ap₂ over (answer_lines n) (left ∙ (refused_so n).1);
+      value_2 = search rules;
     }
 
 pub returns : goal.returns
@@ -61,7 +61,7 @@ returns c =
     let left : c.report-answer.new.buffer ≡ buffer_after o B = c.report-answer.ensures.buffer_after ∙ ap (λ (n : ℕ). buffer_after (report_outcome K n) B) room in
     let w = c in
     let h = text_printed report_answer report_numbered o B (sym (ap (λ (a : Answer). a.refusal) answered) ∙ c.if-answer-ne0.false) in record {
-    value = ap (λ (a : Answer). a.length) answered ∙ h.0 ∙ ap length printed;
-    out_after = left ∙ h.1 ∙ ap (λ (l : List ℕ). over l B) printed;
-    value_2 = search rules
+      value = ap (λ (a : Answer). a.length) answered ∙ h.0 ∙ ap length printed;
+      out_after = left ∙ h.1 ∙ ap (λ (l : List ℕ). over l B) printed;
+      value_2 = search rules;
     }
