@@ -61,7 +61,7 @@ fn enter(rows: &mut [u64], used: usize, place: u64, judged: Judged) -> usize
 
 // Judges the sheets of s in order, up to the first that fails the first question.
 pub fn enter_sheets(s: &[u8], counts: &mut [u64], rows: &mut [u64]) -> Entered
-    requires s_len_bound { length (sheets_in s.now) ≤ most_sheets }
+    requires few_sheets { length (sheets_in s.now) ≤ most_sheets }
     requires counts_value { counts.old ≡ replicate (length numbers_answered) 0 }
     requires rows_len { length rows.old ≡ most_sheets * columns }
     ensures { EnteredFrom (sheets_in s.now) rows.old counts.new rows.new result }

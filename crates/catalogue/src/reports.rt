@@ -25,7 +25,7 @@ fn number_at(numbers: &[u64], i: usize) -> u64
 // The sum of a column of the rows.
 fn column_sum(numbers: &[u64], column: usize) -> u64
     requires column_lt_columns { column < columns }
-    requires numbers_len_bound { length numbers.now ≤ most_sheets * columns }
+    requires few_numbers { length numbers.now ≤ most_sheets * columns }
     requires numbers_bound { total column (runs columns numbers.now) < word_end }
     ensures { result ≡ total column (runs columns numbers.now) }
 {
@@ -65,9 +65,9 @@ fn put(numbers: [u64; SUMMARY], entered: &[u64], buffer: &mut [u8]) -> Answer
 
 // The report on n sheets with these counts and rows.
 fn put_entered(n: u64, counts: [u64; ANSWERS], entered: &[u64], buffer: &mut [u8]) -> Answer
-    requires entered_len_bound { length entered.now ≤ most_sheets * columns }
-    requires entered_bound { total 1 (runs columns entered.now) < word_end }
-    requires entered_bound_2 { total 2 (runs columns entered.now) < word_end }
+    requires few_rows { length entered.now ≤ most_sheets * columns }
+    requires areas_fit { total 1 (runs columns entered.now) < word_end }
+    requires axials_fit { total 2 (runs columns entered.now) < word_end }
     ensures value { result ≡ answer_in report_answer (entered_report n counts entered.now) buffer.old }
     ensures buffer_after { buffer.new ≡ buffer_in (entered_report n counts entered.now) buffer.old }
 {
@@ -78,8 +78,8 @@ fn put_entered(n: u64, counts: [u64; ANSWERS], entered: &[u64], buffer: &mut [u8
 
 // The report on so many sheets, which are not too many.
 fn report_on(sheets: &[u8], n: usize, buffer: &mut [u8]) -> Answer
-    requires n_value { n ≡ length (sheets_in sheets.now) }
-    requires le_n { (1 ≤ n) × (n ≤ most_sheets) }
+    requires all_sheets { n ≡ length (sheets_in sheets.now) }
+    requires countable { (1 ≤ n) × (n ≤ most_sheets) }
     ensures value { result ≡ answer_in report_answer (report_outcome sheets.now) buffer.old }
     ensures buffer_after { buffer.new ≡ buffer_in (report_outcome sheets.now) buffer.old }
 {

@@ -76,7 +76,7 @@ fn run_end(n: usize, i: usize, width: usize) -> usize
 // Writes numbers in rows of `width` at the start of out, and answers their length. A last row may be
 // shorter.
 pub fn put_rows(out: &mut [u8], numbers: &[u64], width: usize) -> usize
-    requires le_width { 1 ≤ width }
+    requires some_columns { 1 ≤ width }
     requires numbers_in_bounds { length (rows_text (runs width numbers.now)) ≤ length out.old }
     ensures value { result ≡ length (rows_text (runs width numbers.now)) }
     ensures out_after { out.new ≡ over (rows_text (runs width numbers.now)) out.old }

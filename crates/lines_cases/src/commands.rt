@@ -109,7 +109,7 @@ fn write_row(rt: &impl Print, bytes: [u8; 512], n: usize) -> io::Result<()> {
 }
 
 fn put_numbers(rt: &impl Print, out: &mut [u8], numbers: &[u64]) -> io::Result<()>
-    requires numbers_len_bound { length numbers.now ≤ 8 }
+    requires few_numbers { length numbers.now ≤ 8 }
     requires in_bounds { 200 ≤ length out.old }
 {
     let n = rows::row_length(numbers);

@@ -62,7 +62,7 @@ pub fn put_refusal(out: &mut [u8], answer: Answer) -> usize
 pub fn certify_prints(sheet: &[u8], out: &mut [u8; LONGEST_CERTIFICATE]) -> usize
     ensures value { result ≡ length (certify_prints sheet.now) }
     ensures out_after { out.new ≡ over (certify_prints sheet.now) out.old }
-    ensures value_2 { 289 ≡ length out.new }
+    ensures room { 289 ≡ length out.new }
 {
     let answer = certificates::write(sheet, out);
     if answer.refusal != 0 {
@@ -75,7 +75,7 @@ pub fn certify_prints(sheet: &[u8], out: &mut [u8; LONGEST_CERTIFICATE]) -> usiz
 pub fn verify_prints(certificate: &[u8], out: &mut [u8; LONGEST_REFUSAL]) -> usize
     ensures value { result ≡ length (verify_prints certificate.now) }
     ensures out_after { out.new ≡ over (verify_prints certificate.now) out.old }
-    ensures value_2 { 55 ≡ length out.new }
+    ensures room { 55 ≡ length out.new }
 {
     let answer = certificates::check(certificate);
     if answer.refusal != 0 {

@@ -13,7 +13,7 @@ use report::printing;
 pub fn survey_prints(kept: &[u8], lines: LineCount, out: &mut [u8; LONGEST_REPORT]) -> usize
     ensures value { result ≡ length (kept_prints kept.now lines) }
     ensures out_after { out.new ≡ over (kept_prints kept.now lines) out.old }
-    ensures value_2 { 27088 ≡ length out.new }
+    ensures room { 27088 ≡ length out.new }
 {
     if MOST_SHEETS < counting::sheet_count(lines) {
         let many = refusals::report_answer(ReportRefusal::SheetCount);

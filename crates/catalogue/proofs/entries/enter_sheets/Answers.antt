@@ -33,19 +33,19 @@ slice_bounds-judge-start c =
 pub overflow_add-place : goal.overflow_add-place
 overflow_add-place c =
     let S : List ℕ = c.args.s.now in
-    let few : length (sheets_in S) ≤ most_sheets = c.requires.s_len_bound in
+    let few : length (sheets_in S) ≤ most_sheets = c.requires.few_sheets in
     let at : ℕ = c.loop-at.at in
     let more : at < length S = c.loop-at-test.true in
     omega (arith, few, place_below c.loop-at.invariant more)
 
 pub shape_of-counts-then-judged-eq1 : goal.shape_of-counts-then-judged-eq1
 shape_of-counts-then-judged-eq1 c =
-    let kept : (length c.loop-at.counts ≡ length c.args.counts.now) × (length c.loop-at.rows ≡ length c.args.rows.now) = let s = c in (counts_kept c.loop-at.invariant ∙ sym (ap length s.requires.counts_value), rows_kept c.loop-at.invariant (omega (arith, s.requires.s_len_bound, s.requires.rows_len))) in
+    let kept : (length c.loop-at.counts ≡ length c.args.counts.now) × (length c.loop-at.rows ≡ length c.args.rows.now) = let s = c in (counts_kept c.loop-at.invariant ∙ sym (ap length s.requires.counts_value), rows_kept c.loop-at.invariant (omega (arith, s.requires.few_sheets, s.requires.rows_len))) in
     kept.0
 
 pub shape_of-rows-then-judged-eq1 : goal.shape_of-rows-then-judged-eq1
 shape_of-rows-then-judged-eq1 c =
-    let kept : (length c.loop-at.counts ≡ length c.args.counts.now) × (length c.loop-at.rows ≡ length c.args.rows.now) = let s = c in (counts_kept c.loop-at.invariant ∙ sym (ap length s.requires.counts_value), rows_kept c.loop-at.invariant (omega (arith, s.requires.s_len_bound, s.requires.rows_len))) in
+    let kept : (length c.loop-at.counts ≡ length c.args.counts.now) × (length c.loop-at.rows ≡ length c.args.rows.now) = let s = c in (counts_kept c.loop-at.invariant ∙ sym (ap length s.requires.counts_value), rows_kept c.loop-at.invariant (omega (arith, s.requires.few_sheets, s.requires.rows_len))) in
     kept.1
 
 pub returns-then-judged-eq1 : goal.returns-then-judged-eq1
@@ -65,7 +65,7 @@ count_one-requires c =
     let at : ℕ = c.loop-at.at in
     let S : List ℕ = c.args.s.now in
     let more : at < length S = c.loop-at-test.true in
-    let few : length (sheets_in S) ≤ most_sheets = c.requires.s_len_bound in
+    let few : length (sheets_in S) ≤ most_sheets = c.requires.few_sheets in
     let J : Judged = judged_of (certified (take (sheet_end S at - at) (drop at S))) in
     let end_is : c.sheet_end-end.result ≡ sheet_end S at = c.sheet_end-end.ensures.value in
     let judged_is : c.judge-judged.result ≡ J = c.judge-judged.ensures ∙ ap (λ (e : ℕ). judged_of (certified (take (e - at) (drop at S)))) end_is in
@@ -84,7 +84,7 @@ enter-used-requires c =
     let more : at < length S = c.loop-at-test.true in
     let array : List ℕ = c.args.rows.now in
     let size : length array ≡ most_sheets * 3 = c.requires.rows_len in
-    let few : length (sheets_in S) ≤ most_sheets = c.requires.s_len_bound in
+    let few : length (sheets_in S) ≤ most_sheets = c.requires.few_sheets in
     let t = c in
     row_room c.loop-at.invariant more size few
 
@@ -105,7 +105,7 @@ loop-at-preserved c =
     let end_is : c.sheet_end-end.result ≡ sheet_end S at = c.sheet_end-end.ensures.value in
     let more : at < length S = c.loop-at-test.true in
     let size : length array ≡ most_sheets * 3 = c.requires.rows_len in
-    let few : length (sheets_in S) ≤ most_sheets = c.requires.s_len_bound in
+    let few : length (sheets_in S) ≤ most_sheets = c.requires.few_sheets in
     let J : Judged = judged_of (certified (take (sheet_end S at - at) (drop at S))) in
     let judged_is : c.judge-judged.result ≡ J = c.judge-judged.ensures ∙ ap (λ (e : ℕ). judged_of (certified (take (e - at) (drop at S)))) end_is in
     let number_same : c.judge-judged.result.number ≡ J.number = ap (λ (x : Judged). x.number) judged_is in
@@ -123,12 +123,12 @@ loop-at-preserved c =
 
 pub shape_of-counts : goal.shape_of-counts
 shape_of-counts c =
-    let kept : (length c.loop-at.counts ≡ length c.args.counts.now) × (length c.loop-at.rows ≡ length c.args.rows.now) = let s = c in (counts_kept c.loop-at.invariant ∙ sym (ap length s.requires.counts_value), rows_kept c.loop-at.invariant (omega (arith, s.requires.s_len_bound, s.requires.rows_len))) in
+    let kept : (length c.loop-at.counts ≡ length c.args.counts.now) × (length c.loop-at.rows ≡ length c.args.rows.now) = let s = c in (counts_kept c.loop-at.invariant ∙ sym (ap length s.requires.counts_value), rows_kept c.loop-at.invariant (omega (arith, s.requires.few_sheets, s.requires.rows_len))) in
     kept.0
 
 pub shape_of-rows : goal.shape_of-rows
 shape_of-rows c =
-    let kept : (length c.loop-at.counts ≡ length c.args.counts.now) × (length c.loop-at.rows ≡ length c.args.rows.now) = let s = c in (counts_kept c.loop-at.invariant ∙ sym (ap length s.requires.counts_value), rows_kept c.loop-at.invariant (omega (arith, s.requires.s_len_bound, s.requires.rows_len))) in
+    let kept : (length c.loop-at.counts ≡ length c.args.counts.now) × (length c.loop-at.rows ≡ length c.args.rows.now) = let s = c in (counts_kept c.loop-at.invariant ∙ sym (ap length s.requires.counts_value), rows_kept c.loop-at.invariant (omega (arith, s.requires.few_sheets, s.requires.rows_len))) in
     kept.1
 
 pub returns : goal.returns

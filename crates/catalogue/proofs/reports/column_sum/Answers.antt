@@ -16,7 +16,7 @@ overflow_add-sum c =
     omega (arith, step, c.loop-i.invariant.1, c.requires.numbers_bound)
 
 pub overflow_add-i-in-loop-i : goal.overflow_add-i-in-loop-i
-overflow_add-i-in-loop-i c = omega (arith, c.loop-i-test.true, c.requires.numbers_len_bound)
+overflow_add-i-in-loop-i c = omega (arith, c.loop-i-test.true, c.requires.few_numbers)
 
 pub loop-i-preserved : goal.loop-i-preserved
 loop-i-preserved c =

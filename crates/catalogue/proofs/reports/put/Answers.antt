@@ -35,7 +35,7 @@ put_rows-at-requires c =
     let B : List ℕ = c.args.buffer.now in
     let text : List ℕ = report_text c.args.numbers c.args.entered.now in
     let needed_is : c.row_length.result + c.row_length-2.result ≡ length text = omega (arith, c.row_length.ensures.value, c.row_length-2.ensures.value, rows_length 1 c.args.numbers (omega arith), rows_length 3 c.args.entered.now (omega arith), length-append above rows) in
-    let room : length above + length rows ≤ length B = omega (arith, needed_is, c.if-buffer-needed.false, length-append above rows) in record { le_width = omega arith; numbers_in_bounds = omega (arith, room) }
+    let room : length above + length rows ≤ length B = omega (arith, needed_is, c.if-buffer-needed.false, length-append above rows) in record { some_columns = omega arith; numbers_in_bounds = omega (arith, room) }
 
 pub slice_bounds-put_rows-count : goal.slice_bounds-put_rows-count
 slice_bounds-put_rows-count c =
@@ -73,7 +73,7 @@ put_rows-requires c =
     let needed_is : c.row_length.result + c.row_length-2.result ≡ length text = omega (arith, c.row_length.ensures.value, c.row_length-2.ensures.value, rows_length 1 c.args.numbers (omega arith), rows_length 3 c.args.entered.now (omega arith), length-append above rows) in
     let room : length above + length rows ≤ length B = omega (arith, needed_is, c.if-buffer-needed.false, length-append above rows) in
     let k = c in
-    let w = k.put_rows-at in record { le_width = omega arith; numbers_in_bounds = part_room above rows B w.new.out w.result w.ensures.value w.ensures.out_after room }
+    let w = k.put_rows-at in record { some_columns = omega arith; numbers_in_bounds = part_room above rows B w.new.out w.result w.ensures.value w.ensures.out_after room }
 
 pub overflow_add-n : goal.overflow_add-n
 overflow_add-n c =

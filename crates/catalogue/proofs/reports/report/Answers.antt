@@ -49,4 +49,4 @@ report_on-requires c =
     let S : List ℕ = c.args.sheets.now in
     let n_is : c.sheet_count-n.result ≡ sheets_counted (line_count S) = c.sheet_count-n.ensures ∙ ap sheets_counted (c.count_on-lines.ensures ∙ counted_behind [] S _ c.no_lines.ensures) in
     let k = c in
-    let exact = counted_exactly S (omega (arith, n_is, c.if-n-gt-MOST_SHEETS.false)) in record { n_value = n_is ∙ exact; le_n = (omega (arith, c.if-n-eq0.false), omega (arith, c.if-n-gt-MOST_SHEETS.false)) }
+    let exact = counted_exactly S (omega (arith, n_is, c.if-n-gt-MOST_SHEETS.false)) in record { all_sheets = n_is ∙ exact; countable = (omega (arith, c.if-n-eq0.false), omega (arith, c.if-n-gt-MOST_SHEETS.false)) }

@@ -32,7 +32,7 @@ slice_bounds-rows-end c =
     let counts : List ℕ = c.enter_sheets-entered.new.counts in
     let left : EnteredFrom P (replicate 3000 0) counts rows c.enter_sheets-entered.result = c.enter_sheets-entered.ensures in
     let all : (first_of (question15 P) ≡ met) × (used ≡ length (entries P)) × (counts ≡ counts_of P) × (rows ≡ over (entries P) (replicate 3000 0)) = subst (EnteredFrom P (replicate 3000 0) counts rows) c.in-Rows.is left in
-    let entries_below : length (entries P) ≤ 3000 = omega (arith, entries_most 1 P, c.requires.n_value, c.requires.le_n.1) in
+    let entries_below : length (entries P) ≤ 3000 = omega (arith, entries_most 1 P, c.requires.all_sheets, c.requires.countable.1) in
     let used_most : used ≤ length rows = omega (arith, all.1, ap length all.3, length-over (entries P) (replicate 3000 0) (omega (arith, entries_below, length-replicate {A = ℕ} 3000 0)), entries_below, length-replicate {A = ℕ} 3000 0) in
     used_most
 
@@ -45,7 +45,7 @@ slice_bounds-put_entered-end c =
     let counts : List ℕ = c.enter_sheets-entered.new.counts in
     let left : EnteredFrom P (replicate 3000 0) counts rows c.enter_sheets-entered.result = c.enter_sheets-entered.ensures in
     let all : (first_of (question15 P) ≡ met) × (used ≡ length (entries P)) × (counts ≡ counts_of P) × (rows ≡ over (entries P) (replicate 3000 0)) = subst (EnteredFrom P (replicate 3000 0) counts rows) c.in-Rows.is left in
-    let entries_below : length (entries P) ≤ 3000 = omega (arith, entries_most 1 P, c.requires.n_value, c.requires.le_n.1) in
+    let entries_below : length (entries P) ≤ 3000 = omega (arith, entries_most 1 P, c.requires.all_sheets, c.requires.countable.1) in
     let used_most : used ≤ length rows = omega (arith, all.1, ap length all.3, length-over (entries P) (replicate 3000 0) (omega (arith, entries_below, length-replicate {A = ℕ} 3000 0)), entries_below, length-replicate {A = ℕ} 3000 0) in
     sym (length-take-le _ _ used_most)
 
@@ -60,19 +60,19 @@ put_entered-requires c =
     let left : EnteredFrom P (replicate 3000 0) counts rows c.enter_sheets-entered.result = c.enter_sheets-entered.ensures in
     let all : (first_of (question15 P) ≡ met) × (used ≡ length (entries P)) × (counts ≡ counts_of P) × (rows ≡ over (entries P) (replicate 3000 0)) = subst (EnteredFrom P (replicate 3000 0) counts rows) c.in-Rows.is left in
     let taken : take used rows ≡ entries P = ap (λ (n : ℕ). take n rows) all.1 ∙ ap (take (length (entries P))) all.3 ∙ over_front (entries P) (replicate 3000 0) in
-    let entries_below : length (entries P) ≤ 3000 = omega (arith, entries_most 1 P, c.requires.n_value, c.requires.le_n.1) in
+    let entries_below : length (entries P) ≤ 3000 = omega (arith, entries_most 1 P, c.requires.all_sheets, c.requires.countable.1) in
     let k = c in
-    let few = c.requires.le_n.1 in
+    let few = c.requires.countable.1 in
     let back = rows_back in record {
-      entered_len_bound = omega (arith, ap length taken, entries_below);
-      entered_bound = subst (λ (l : List ℕ). total 1 (runs 3 l) < 18446744073709551616) (sym taken) (omega (arith, ap (total 1) back, total_most 1 1 P (omega arith, omega arith), c.requires.n_value, few));
-      entered_bound_2 = subst (λ (l : List ℕ). total 2 (runs 3 l) < 18446744073709551616) (sym taken) (omega (arith, ap (total 2) back, total_most 1 2 P (omega arith, omega arith), c.requires.n_value, few));
+      few_rows = omega (arith, ap length taken, entries_below);
+      areas_fit = subst (λ (l : List ℕ). total 1 (runs 3 l) < 18446744073709551616) (sym taken) (omega (arith, ap (total 1) back, total_most 1 1 P (omega arith, omega arith), c.requires.all_sheets, few));
+      axials_fit = subst (λ (l : List ℕ). total 2 (runs 3 l) < 18446744073709551616) (sym taken) (omega (arith, ap (total 2) back, total_most 1 2 P (omega arith, omega arith), c.requires.all_sheets, few));
     }
 
 pub returns-in-Stopped : goal.returns-in-Stopped
 unfolding EnteredFrom report_outcome
 returns-in-Stopped c =
-    let countable : Countable (sheets_in c.args.sheets.now) = record { some = omega (arith, c.requires.n_value, c.requires.le_n.0); few = omega (arith, c.requires.n_value, c.requires.le_n.1) } in
+    let countable : Countable (sheets_in c.args.sheets.now) = record { some = omega (arith, c.requires.all_sheets, c.requires.countable.0); few = omega (arith, c.requires.all_sheets, c.requires.countable.1) } in
     let s = c in
     let ps = sheets_in s.args.sheets.now in
     let b = s.args.buffer.now in
@@ -89,7 +89,7 @@ pub returns-in-Rows : goal.returns-in-Rows
 unfolding report_outcome EnteredFrom
 returns-in-Rows c =
     let P : List (List ℕ) = sheets_in c.args.sheets.now in
-    let countable : Countable (sheets_in c.args.sheets.now) = record { some = omega (arith, c.requires.n_value, c.requires.le_n.0); few = omega (arith, c.requires.n_value, c.requires.le_n.1) } in
+    let countable : Countable (sheets_in c.args.sheets.now) = record { some = omega (arith, c.requires.all_sheets, c.requires.countable.0); few = omega (arith, c.requires.all_sheets, c.requires.countable.1) } in
     let used : ℕ = c.in-Rows.used in
     let counts : List ℕ = c.enter_sheets-entered.new.counts in
     let rows : List ℕ = c.enter_sheets-entered.new.rows in
@@ -97,7 +97,7 @@ returns-in-Rows c =
     let all : (first_of (question15 P) ≡ met) × (used ≡ length (entries P)) × (counts ≡ counts_of P) × (rows ≡ over (entries P) (replicate 3000 0)) = subst (EnteredFrom P (replicate 3000 0) counts rows) c.in-Rows.is left in
     let met_all : first_of (question15 P) ≡ met = all.0 in
     let taken : take used rows ≡ entries P = ap (λ (n : ℕ). take n rows) all.1 ∙ ap (take (length (entries P))) all.3 ∙ over_front (entries P) (replicate 3000 0) in
-    let fitted_is : (room : ℕ) → fitted Room room (report_of P) ≡ entered_report c.args.n counts (take used rows) room = λ room. sym (ap (λ (n : ℕ). entered_report n counts (take used rows) room) c.requires.n_value ∙ ap (λ (l : List ℕ). entered_report (length P) l (take used rows) room) all.2 ∙ ap (λ (l : List ℕ). entered_report (length P) (counts_of P) l room) taken ∙ entered_report_lem P room) in
+    let fitted_is : (room : ℕ) → fitted Room room (report_of P) ≡ entered_report c.args.n counts (take used rows) room = λ room. sym (ap (λ (n : ℕ). entered_report n counts (take used rows) room) c.requires.all_sheets ∙ ap (λ (l : List ℕ). entered_report (length P) l (take used rows) room) all.2 ∙ ap (λ (l : List ℕ). entered_report (length P) (counts_of P) l room) taken ∙ entered_report_lem P room) in
     let k = c in
     let b = c.args.buffer.now in
     let o = sym (outcome_fitted P (length b) countable met_all ∙ fitted_is (length b)) in

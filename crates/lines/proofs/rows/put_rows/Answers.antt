@@ -25,20 +25,20 @@ slice_bounds-put_row-start c =
 pub put_row-at-requires : goal.put_row-at-requires
 put_row-at-requires c =
     let t = c in
-    rows_room t.loop-i.invariant.1 c.requires.numbers_in_bounds t.run_end-end.result c.requires.le_width t.loop-i-test.true t.run_end-end.ensures
+    rows_room t.loop-i.invariant.1 c.requires.numbers_in_bounds t.run_end-end.result c.requires.some_columns t.loop-i-test.true t.run_end-end.ensures
 
 pub overflow_add-at : goal.overflow_add-at
 overflow_add-at c =
     let at_start : ℕ = c.loop-i.at in
     let lent : List ℕ = c.loop-i.out in
-    let more : RowsBegun c.args.width c.args.numbers.now c.args.out.now (at_start + c.put_row-at.result) c.run_end-end.result (put_mid at_start (length lent - at_start) lent c.put_row-at.new.out) = rows_more c.loop-i.invariant.1 c.requires.numbers_in_bounds c.run_end-end.result c.requires.le_width c.loop-i-test.true c.run_end-end.ensures c.put_row-at.result c.put_row-at.new.out c.put_row-at.ensures.value c.put_row-at.ensures.out_after in
+    let more : RowsBegun c.args.width c.args.numbers.now c.args.out.now (at_start + c.put_row-at.result) c.run_end-end.result (put_mid at_start (length lent - at_start) lent c.put_row-at.new.out) = rows_more c.loop-i.invariant.1 c.requires.numbers_in_bounds c.run_end-end.result c.requires.some_columns c.loop-i-test.true c.run_end-end.ensures c.put_row-at.result c.put_row-at.new.out c.put_row-at.ensures.value c.put_row-at.ensures.out_after in
     omega (arith, rows_inside more c.requires.numbers_in_bounds)
 
 pub loop-i-preserved : goal.loop-i-preserved
 loop-i-preserved c =
     let at_start : ℕ = c.loop-i.at in
     let lent : List ℕ = c.loop-i.out in
-    let more : RowsBegun c.args.width c.args.numbers.now c.args.out.now (at_start + c.put_row-at.result) c.run_end-end.result (put_mid at_start (length lent - at_start) lent c.put_row-at.new.out) = rows_more c.loop-i.invariant.1 c.requires.numbers_in_bounds c.run_end-end.result c.requires.le_width c.loop-i-test.true c.run_end-end.ensures c.put_row-at.result c.put_row-at.new.out c.put_row-at.ensures.value c.put_row-at.ensures.out_after in
+    let more : RowsBegun c.args.width c.args.numbers.now c.args.out.now (at_start + c.put_row-at.result) c.run_end-end.result (put_mid at_start (length lent - at_start) lent c.put_row-at.new.out) = rows_more c.loop-i.invariant.1 c.requires.numbers_in_bounds c.run_end-end.result c.requires.some_columns c.loop-i-test.true c.run_end-end.ensures c.put_row-at.result c.put_row-at.new.out c.put_row-at.ensures.value c.put_row-at.ensures.out_after in
     (omega arith, more)
 
 pub shape_of-out : goal.shape_of-out

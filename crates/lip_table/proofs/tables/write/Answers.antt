@@ -15,7 +15,7 @@ returns-then-buffer-lt-TABLE_LENGTH c = let r = table_refused c.args.buffer.now 
 
 pub put_rows-n-requires : goal.put_rows-n-requires
 put_rows-n-requires c = record {
-  le_width = omega arith;
+  some_columns = omega arith;
   numbers_in_bounds = omega (arith, ap length (text_of_numbers c.numbers-numbers.ensures), table_length_lem, c.if-buffer-lt-TABLE_LENGTH.false);
 }
 

@@ -32,7 +32,7 @@ returns-then-answer-ne0 c =
     let lines : refusal_lines w.write-answer.result ≡ certify_prints S = ap refusal_lines answered ∙ h.0 in record {
       value = put.value ∙ ap length lines;
       out_after = put.out_after ∙ ap (λ (l : List ℕ). over l w.write-answer.new.buffer) lines ∙ ap (over (certify_prints S)) (left ∙ h.1);
-      value_2 = search rules;
+      room = search rules;
     }
 
 pub returns : goal.returns
@@ -45,4 +45,4 @@ returns c =
     let answered : c.write-answer.result ≡ answer_of refusal_answer o = c.write-answer.ensures.value ∙ ap (λ (n : ℕ). answer_of refusal_answer (outcome S n)) room in
     let left : c.write-answer.new.buffer ≡ buffer_after o B = c.write-answer.ensures.buffer_after ∙ ap (λ (n : ℕ). buffer_after (outcome S n) B) room in
     let w = c in
-    let h = text_printed refusal_answer refusal_numbered o B (sym (ap (λ (a : Answer). a.refusal) answered) ∙ c.if-answer-ne0.false) in record { value = ap (λ (a : Answer). a.length) answered ∙ h.0; out_after = left ∙ h.1; value_2 = search rules }
+    let h = text_printed refusal_answer refusal_numbered o B (sym (ap (λ (a : Answer). a.refusal) answered) ∙ c.if-answer-ne0.false) in record { value = ap (λ (a : Answer). a.length) answered ∙ h.0; out_after = left ∙ h.1; room = search rules }

@@ -19,7 +19,7 @@ returns-then-answer-ne0 c =
     let lines = sym (refusal_prints call.check-answer.result c.if-answer-ne0.true) ∙ prints in record {
       value = put.value ∙ ap length lines;
       out_after = put.out_after ∙ ap (λ (l : List ℕ). over l call.args.out.now) lines;
-      value_2 = search rules;
+      room = search rules;
     }
 
 pub put_number-requires : goal.put_number-requires
@@ -35,5 +35,5 @@ returns c =
     let line = sym (passed_prints call.check-answer.result c.if-answer-ne0.false) ∙ prints in record {
       value = put.value ∙ ap length line;
       out_after = put.out_after ∙ ap (λ (l : List ℕ). over l call.args.out.now) line;
-      value_2 = search rules;
+      room = search rules;
     }

@@ -26,7 +26,7 @@ returns-then-sheet_count-gt-MOST_SHEETS c =
     let put = c.put_refusal.ensures in record {
       value = put.value ∙ ap length refusal_lines_lem;
       out_after = put.out_after ∙ ap (λ (l : List ℕ). over l c.args.out.now) refusal_lines_lem;
-      value_2 = search rules;
+      room = search rules;
     }
 
 pub returns-then-answer-ne0 : goal.returns-then-answer-ne0
@@ -46,7 +46,7 @@ returns-then-answer-ne0 c =
     let put = c.put_refusal-then-answer-ne0.ensures in record {
       value = put.value ∙ ap length (answer_lines n);
       out_after = put.out_after ∙ ap₂ over (answer_lines n) (left ∙ (refused_so n).1);
-      value_2 = search rules;
+      room = search rules;
     }
 
 pub returns : goal.returns
@@ -63,5 +63,5 @@ returns c =
     let h = text_printed report_answer report_numbered o B (sym (ap (λ (a : Answer). a.refusal) answered) ∙ c.if-answer-ne0.false) in record {
       value = ap (λ (a : Answer). a.length) answered ∙ h.0 ∙ ap length printed;
       out_after = left ∙ h.1 ∙ ap (λ (l : List ℕ). over l B) printed;
-      value_2 = search rules;
+      room = search rules;
     }
