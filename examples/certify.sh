@@ -3,8 +3,8 @@
 #
 #     examples/certify.sh examples/sheet_b.txt
 #
-# The program is proved and built first where that has not been done: some two and a half minutes and
-# 1.5 GiB, once. If that fails the end of what was said is shown. examples/certify_all.sh takes many
+# The program is proved and built first where that has not been done: some three minutes and 1.1 GiB,
+# once. If that fails the end of what was said is shown. examples/certify_all.sh takes many
 # sheets and returns a status.
 set -eu
 if [ $# -ne 1 ]; then
@@ -15,7 +15,7 @@ root=$(dirname -- "$0")/..
 log=$(mktemp)
 trap 'rm -f "$log"' EXIT
 if [ ! -x "$root/target/bin/certify" ]; then
-    echo "proving and building certify: some two and a half minutes, once" >&2
+    echo "proving and building certify: some three minutes, once" >&2
 fi
 if ! "$root/tools/build.sh" certify 2>"$log"; then
     tail -n 20 "$log" >&2
