@@ -40,7 +40,7 @@ certify_sheet() {
     certificate=$sheet.certificate
     part=$certificate.$$
 
-    # The programs have no exit status: where standard error is empty, standard output is whole.
+    # The programs end with status 0: where standard error is empty, standard output is whole.
     if ! said=$({ "$programs/certify" <"$sheet" >"$part"; } 2>&1) || [ -n "$said" ]; then
         failed "$sheet" "${said:-certify failed}"
         return

@@ -32,8 +32,8 @@ if command -v c++ >/dev/null; then
     echo '#include "honemagenta.h"' | c++ -x c++ $strict -
 fi
 
-# Every crate is proved from nothing, the must-fail edits are tried and the programs run. What comes behind is
-# built on what is proved here.
+# Every crate is proved, the must-fail edits are tried and the programs run; what passed on this machine before
+# is kept. What comes behind is built on what is proved here.
 closing=$(mktemp)
 trap 'rm -f "$closing"' EXIT
 rt ci | tee "$closing"

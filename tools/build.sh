@@ -3,8 +3,8 @@
 #
 #     tools/build.sh NAME...
 #
-# What an earlier run proved and built here is taken again. What the toolchain says goes to standard error where
-# a crate cannot be proved or built, and the status is then 1.
+# What an earlier run proved and built here is taken again. Where a crate cannot be proved or built, what the
+# toolchain says goes to standard error, and the status is 1.
 set -eu
 if [ $# -eq 0 ]; then
     echo "tools/build.sh NAME..." >&2
@@ -15,26 +15,33 @@ said=$(mktemp)
 trap 'rm -f "$said"' EXIT
 mkdir -p "$root/target/bin" "$root/target/staticlib"
 
-# A program is built by being run: once, on no input.
-built() {
-    cd "$root/crates/$1"
-    if [ -f src/main.rt ]; then
-        rt run </dev/null
+# A program is built by being run: once, on no input, with which each of them ends with status 0.
+build() {
+    if [ -f "$1/src/main.rt" ]; then
+        cd "$1" && rt run </dev/null
     else
-        rt lib
+        cd "$1" && rt lib
     fi
 }
 
 for name; do
-    if ! (built "$name") >"$said" 2>&1; then
+    crate=$root/crates/$name
+    if [ -f "$crate/src/main.rt" ]; then
+        made=$crate/out/$name
+        place=$root/target/bin/$name
+    elif [ -f "$crate/src/lib.rt" ]; then
+        made=$crate/out/lib$name.a
+        place=$root/target/staticlib/lib$name.a
+    else
+        echo "there is no crate $name" >&2
+        exit 1
+    fi
+    if ! (build "$crate") >"$said" 2>&1; then
         cat "$said" >&2
         echo "$name could not be proved and built: see above" >&2
         exit 1
     fi
-    made=$root/crates/$name/out
-    if [ -f "$root/crates/$name/src/main.rt" ]; then
-        cp -f "$made/$name" "$root/target/bin/"
-    else
-        cp -f "$made/lib$name.a" "$root/target/staticlib/"
-    fi
+    # It gets its name when it is whole, so that another run may use the one that is there.
+    cp "$made" "$place.$$"
+    mv -f "$place.$$" "$place"
 done

@@ -1,7 +1,8 @@
 #!/usr/bin/env python3
 """Brings the repository's own definitions and lemmas to the kit's spelling, by the table respell.tsv beside this script.
 
-usage: python3 tools/respell.py [TOP]      once, right after /opt/rattle/port/port.py; TOP is the repository, otherwise this folder's
+usage: python3 tools/respell.py [TOP]      once, right after /opt/rattle/port/port.py; TOP is the repository, otherwise this folder's.
+                                           Where docs/PORT.md is there the names are turned already, and nothing is done.
 
 Turned are the words of the .antt and .rt files of crates/, and those in code spans of pages. Must-fail edits stay.
 """
@@ -46,6 +47,8 @@ def respelt(rows, text, path, page=False):
 
 def main():
     top = sys.argv[1] if len(sys.argv) > 1 else os.path.dirname(HERE)
+    if os.path.exists(os.path.join(top, "docs/PORT.md")):
+        sys.exit("docs/PORT.md is there: the names are turned already")
     rows = table()
     changed = 0
     files = subprocess.run(["git", "ls-files", "-co", "--exclude-standard"], cwd=top, capture_output=True, text=True, check=True).stdout

@@ -36,7 +36,7 @@ fn sheet_end(s: &[u8], at: usize) -> usize
 // One sheet more that is answered with this number.
 fn count_one(counts: &mut [u64], number: usize)
     requires number_in_bounds { number < length counts.old }
-    requires number_bound { get_or counts.old number 0 < most_sheets }
+    requires count_below { get_or counts.old number 0 < most_sheets }
     ensures { counts.new ≡ set counts.old number (get_or counts.old number 0 + 1) }
 {
     counts[number] = counts[number] + 1;

@@ -54,7 +54,7 @@ pub number_line_lem : (F : Field) (n : ℕ) → F.kind ≡ Number → n < 10 ^ 2
 unfolding value_text integer_text
 number_line_lem F n e h = omega (arith, line_size F (pos n), ap (λ (k : Kind). length (value_text k (pos n))) e, decimal-length 19 n h)
 
--- a value that is not a letter: its kind's tag is that of the second or the third variant
+-- a value whose kind is no letter
 pub other_text : (k : Kind) (v : ℤ) → ((x y : ℕ) → k ≡ Letter x y → ⊥) → value_text k v ≡ integer_text v
 unfolding value_text
 other_text (Letter x y) v h = absurd (h x y refl)

@@ -16,11 +16,11 @@ use Rattle.pair.proofs.IntegerParts.{sub_parts, neg_above, neg_below, plus_parts
 -- the order
 
 -- it is that of the standard library
-pub order-is_std : (x y : ℤ) → (x ≼ℤ y) ↔ (x ≤ℤ y)
-order-is_std (pos a) (pos b) = (λ h. record { le = le_in (pos a) (pos b) h.order }, λ h. record { order = le_T (pos a) (pos b) h.le })
-order-is_std (pos a) (negsuc b) = (λ h. record { le = le_in (pos a) (negsuc b) h.order }, λ h. record { order = le_T (pos a) (negsuc b) h.le })
-order-is_std (negsuc a) (pos b) = (λ h. record { le = le_in (negsuc a) (pos b) h.order }, λ h. record { order = le_T (negsuc a) (pos b) h.le })
-order-is_std (negsuc a) (negsuc b) = (λ h. record { le = le_in (negsuc a) (negsuc b) h.order }, λ h. record { order = le_T (negsuc a) (negsuc b) h.le })
+pub order_is_std : (x y : ℤ) → (x ≼ℤ y) ↔ (x ≤ℤ y)
+order_is_std (pos a) (pos b) = (λ h. record { le = le_in (pos a) (pos b) h.order }, λ h. record { order = le_T (pos a) (pos b) h.le })
+order_is_std (pos a) (negsuc b) = (λ h. record { le = le_in (pos a) (negsuc b) h.order }, λ h. record { order = le_T (pos a) (negsuc b) h.le })
+order_is_std (negsuc a) (pos b) = (λ h. record { le = le_in (negsuc a) (pos b) h.order }, λ h. record { order = le_T (negsuc a) (pos b) h.le })
+order_is_std (negsuc a) (negsuc b) = (λ h. record { le = le_in (negsuc a) (negsuc b) h.order }, λ h. record { order = le_T (negsuc a) (negsuc b) h.le })
 
 pub le_refl_ℤ : (x : ℤ) → x ≼ℤ x
 le_refl_ℤ x = omega arith

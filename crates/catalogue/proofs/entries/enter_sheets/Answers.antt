@@ -74,7 +74,7 @@ count_one-requires c =
     let below = number_below c.loop-at.invariant more in
     let known = count_below c.loop-at.invariant more few in record {
       number_in_bounds = omega (arith, number_same, below, counts_kept c.loop-at.invariant);
-      number_bound = subst (λ (n : ℕ). get_or c.loop-at.counts n 0 < most_sheets) (sym number_same) known;
+      count_below = subst (λ (n : ℕ). get_or c.loop-at.counts n 0 < most_sheets) (sym number_same) known;
     }
 
 pub enter-used-requires : goal.enter-used-requires

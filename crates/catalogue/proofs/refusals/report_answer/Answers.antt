@@ -1,4 +1,4 @@
--- `refusals::report_answer` meets its contract: at each variant the numbers are those of `report_answer`.
+-- `refusals::report_answer` meets its contract: at each variant the numbers are those of the definition of that name.
 use Rattle.catalogue.proofs.refusals.report_answer.Goals as goal
 
 pub returns-in-SheetCount : goal.returns-in-SheetCount

@@ -1,4 +1,4 @@
--- `certificate::refusals::refusal_answer` meets its contract: at each variant the numbers are those of `told`.
+-- `certificate::refusals::refusal_answer` meets its contract: at each variant the numbers are those of the definition of that name.
 use Rattle.certificate.proofs.refusals.refusal_answer.Goals as goal
 
 pub returns-in-Spelling : goal.returns-in-Spelling

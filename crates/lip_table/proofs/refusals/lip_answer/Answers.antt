@@ -1,4 +1,4 @@
--- `refusals::lip_answer` meets its contract: at each variant the numbers are those of `lip_answer`.
+-- `refusals::lip_answer` meets its contract: at each variant the numbers are those of the definition of that name.
 use Rattle.lip_table.proofs.refusals.lip_answer.Goals as goal
 
 pub returns-in-Ratio : goal.returns-in-Ratio
