@@ -1,84 +1,72 @@
-// What the programs that run cases share: the lines of standard input, the words of a line, and how
-// results are printed.
+// What the programs that run cases share: the lines of standard input, and the numbers of a line.
 #![tactic(auto)]
 
-pub mod print;
+ghost use Rattle.std.specs.Prelude.{◌<◌, ◌^◌, unsigned_abs, List, ℕ, OnOk};
+ghost use Rattle.std.specs.Io.KnownBytes.{Consumes};
+ghost use Rattle.cases.specs.Lines.{RunsOn};
 
-ghost use Rattle.std.specs.Prelude.{◌≡◌, ◌≤◌, length};
+use report::streams;
+use std::io::{ErrorKind, Read};
+use std::{io, str};
 
-use pair::signed::Integer;
-
-// A word's number as far as it is read, with the blanks that stand before the word yet.
-#[derive(Clone, Copy)]
-struct Word {
-    blanks: u64,
-    below: bool,
-    size: u64,
+// Runs `run` on each line of a text, in their order, until one fails.
+pub fn each_line_of<F: FnMut(&str) -> io::Result<()>>(text: &str, run: F) -> io::Result<()>
+    requires { F.IsAlwaysCallable run }
+    ensures { OnOk result (RunsOn F.FnMut run text.now) }
+{
+    text.lines().try_for_each(run)
 }
 
-// Room for the cases of any program: what stands behind the last of so many bytes stays unread.
-pub fn buffer() -> [u8; 1048576]
-    ensures { 1048576 ≡ length result }
+// The same of the first ROOM bytes that the reader gives.
+fn each_line_within<R: Read, F: FnMut(&str) -> io::Result<()>, const ROOM: usize>(
+    reader: &mut R,
+    run: F,
+) -> io::Result<()>
+    requires callable { F.IsAlwaysCallable run }
+    requires room { ROOM < 2 ^ 63 }
+    ensures { OnOk result ((text : List ℕ) × Consumes (R.remaining reader.old) (R.remaining reader.new) text × RunsOn F.FnMut run text) }
 {
-    [0; 1048576]
+    let mut buffer = [0; ROOM];
+    let input = streams::input(reader, &mut buffer)?;
+    let Ok(text) = str::from_utf8(input) else {
+        return Err(ErrorKind::InvalidData.into());
+    };
+    each_line_of(text, run)
 }
 
-// Where the line that begins at `at` ends: at its newline, or with the input.
-pub fn line_end(input: &[u8], at: usize) -> usize
-    requires { at ≤ length input.now }
-    ensures { (at ≤ result) × (result ≤ length input.now) }
+// The same of what the reader gives. What stands behind the last of 1,048,576 bytes stays unread.
+pub fn each_line<R: Read, F: FnMut(&str) -> io::Result<()>>(
+    reader: &mut R,
+    run: F,
+) -> io::Result<()>
+    requires { F.IsAlwaysCallable run }
+    ensures { OnOk result ((text : List ℕ) × Consumes (R.remaining reader.old) (R.remaining reader.new) text × RunsOn F.FnMut run text) }
 {
-    let mut i = at;
-    while i < input.len() {
-        if input[i] == b'\n' {
-            return i;
-        }
-        i += 1;
-    }
-    i
+    each_line_within::<R, F, 1_048_576>(reader, run)
 }
 
 // The letter that a line begins with.
-pub fn letter(line: &[u8]) -> u8 {
-    if 0 < line.len() { line[0] } else { 0 }
+pub fn letter(line: &str) -> Option<char> {
+    line.chars().next()
 }
 
-// One decimal digit more. No number of the cases passes 64 bits.
-fn with_digit(size: u64, digit: u8) -> u64 {
-    (size % 1844674407370955162 * 10).wrapping_add((digit % 16) as u64)
+// The word behind so many blanks of a line, with a blank between the words.
+fn word(line: &str, blanks: usize) -> &str {
+    line.split(' ').nth(blanks).unwrap_or("")
 }
 
-// Behind the word the blanks wrap, and are not 0 again.
-fn with_byte(word: Word, byte: u8) -> Word {
-    let mut w = word;
-    if byte == b' ' {
-        w.blanks = w.blanks.wrapping_sub(1);
-        return w;
-    }
-    if w.blanks == 0 {
-        if byte == b'-' {
-            w.below = true;
-        } else {
-            w.size = with_digit(w.size, byte);
-        }
-    }
-    w
+// The number that stands there, 0 where none does.
+pub fn number(line: &str, blanks: usize) -> u64 {
+    word(line, blanks).parse().unwrap_or(0)
 }
 
-// The number that stands behind so many blanks of a line: a decimal, after a minus where it lies below zero.
-pub fn number(line: &[u8], blanks: u64) -> Integer {
-    let mut w = Word {
-        blanks,
-        below: false,
-        size: 0,
-    };
-    let mut i = 0;
-    while i < line.len() {
-        w = with_byte(w, line[i]);
-        i += 1;
-    }
-    Integer {
-        below: w.below,
-        size: w.size,
+// The same of a number that may lie below zero.
+pub fn integer(line: &str, blanks: usize) -> i128
+    ensures { unsigned_abs result < 2 ^ 64 }
+{
+    let word = word(line, blanks);
+    match word.strip_prefix('-') {
+        Some(size) => -(size.parse::<u64>().unwrap_or(0) as i128),
+        None => word.parse::<u64>().unwrap_or(0) as i128,
     }
 }

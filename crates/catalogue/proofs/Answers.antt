@@ -1,4 +1,5 @@
 -- What is answered to a catalogue, both ways: a report, or 14, 15 and 12, each exactly in its case and in that order.
+use Rattle.std.specs.Prelude.{Result, Ok, Err}
 use Prim.Native.Nat.{ℕ, ◌≤◌, ◌<◌}
 use mathlib.Core.List.{List, []}
 use mathlib.Core.Logic.{◌⊎◌, inl, inr, ⊎_elim, ◌↔◌}
@@ -10,11 +11,10 @@ use lib.ListN.{length}
 use Rattle.pair.proofs.Numbers.{by_test}
 use Rattle.questions.specs.declared.Answer.{Answer}
 use Rattle.questions.specs.Answers.{answer}
-use Rattle.questions.specs.Asking.{Finding, refusal, met, first_of}
-use Rattle.questions.specs.Buffers.{over}
+use Rattle.questions.specs.Asking.{first_of}
 use Rattle.questions.specs.Outcomes.{Outcome, refused, written, answer_of}
 use Rattle.questions.specs.Reasons.{Refuses}
-use Rattle.questions.proofs.Laws.{fits, too_long, written_not_refused, answers_refusal, answers_text}
+use Rattle.questions.proofs.Laws.{fits, too_long}
 use Rattle.catalogue.specs.declared.ReportRefusal.{ReportRefusal}
 use Rattle.catalogue.specs.declared.ReportRefusal.TheVariants.{SheetCount, Misspelt, Room}
 use Rattle.catalogue.specs.Catalogues.{most_sheets, rows_from, report_of, longest_report}
@@ -29,10 +29,10 @@ use Rattle.catalogue.proofs.ReportLengths.{report_most}
 
 -- what a refusal answers
 refused_answer : {o : Outcome ReportRefusal} {r : ReportRefusal} → o ≡ refused r → answer_of report_answer o ≡ report_answer r
-refused_answer {o} {r} e = sym (answers_refusal report_answer o (report_answer r) [] r e refl).0
+refused_answer e = rw e
 
 written-answer : {o : Outcome ReportRefusal} {t : List ℕ} → o ≡ written t → answer_of report_answer o ≡ answer 0 0 (length t)
-written-answer {o} {t} e = sym (answers_text report_answer o (answer 0 0 (length t)) [] t (over t []) (length t) e refl refl refl).0
+written-answer e = rw e
 
 -- The cases of sheets and a room.
 module _ (ps : List (List ℕ)) (room : ℕ) where
@@ -70,9 +70,9 @@ module _ (ps : List (List ℕ)) (room : ℕ) where
       (λ t. fitting_in h s (leb-true (length (report_of ps)) room t))
       (λ f. too_long_for h s (leb-false (length (report_of ps)) room f))
 
-  by_spelling : Countable ps → (f : Finding ReportRefusal) → first_of (question15 ps) ≡ f → Case
-  by_spelling h met e = by_room h ((all_spelt ps).0 e)
-  by_spelling h (refusal r) e = let f = first_found ps e in unspelt h f.0 f.1
+  by_spelling : Countable ps → (f : Result Unit ReportRefusal) → first_of (question15 ps) ≡ f → Case
+  by_spelling h (Ok tt) e = by_room h ((all_spelt ps).0 e)
+  by_spelling h (Err r) e = let f = first_found ps e in unspelt h f.0 f.1
 
   pub case : Case
   case =
@@ -97,9 +97,9 @@ module _ (ps : List (List ℕ)) (room : ℕ) where
   -- By cases: written, or refused.
   written-Case : (t : List ℕ) (c : Case) → Outcome-of c ≡ written t → Reported ps room t
   unfolding Outcome-of
-  written-Case t (uncounted n) e = absurd (written_not_refused e)
-  written-Case t (unspelt h place f) e = absurd (written_not_refused e)
-  written-Case t (too_long_for h s l) e = absurd (written_not_refused e)
+  written-Case t (uncounted n) e = cc
+  written-Case t (unspelt h place f) e = cc
+  written-Case t (too_long_for h s l) e = cc
   written-Case t (fitting_in h s l) e =
       let same : t ≡ report_of ps = cc in
       record { countable = h; spelt = s; text = same; fits = omega (arith, ap length same, l); says = subst (Reports ps) (sym same) (says s) }

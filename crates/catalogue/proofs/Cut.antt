@@ -1,4 +1,5 @@
 -- Input cut behind the bytes that a full catalogue can have: the first sheet that fails the first question is the same.
+use Rattle.std.specs.Prelude.{Err}
 use Prim.Native.Nat.{ℕ, zero, suc, ◌+◌, ◌-◌, ◌*◌, ◌≤◌, ◌<◌}
 use mathlib.Core.List.{List, [], ◌∷◌, ◌++◌}
 use mathlib.Core.Path.{◌≡◌, sym, ap, ◌∙◌}
@@ -9,9 +10,7 @@ use lib.ListN.{length, get_or, take, drop, length-append, length-take, take-appe
 use native.Mathlib.Nat.{suc-mul}
 use lib.Seq.{take_all, take-append-le, take-append-add}
 use Rattle.pair.proofs.Numbers.{by_test}
-use Rattle.questions.specs.Asking.{refusal}
 use Rattle.questions.specs.Outcomes.{answer_of}
-use Rattle.questions.proofs.Laws.{met_not_refused}
 use Rattle.lines.specs.Splitting.{split_lines, joined}
 use Rattle.lines.specs.Texts.{longest}
 use Rattle.lines.proofs.Laws.{split_count, split_front, split_most}
@@ -95,7 +94,7 @@ module _ (s : List ℕ) (m : ℕ) (longer : m < length s) where
 -- What is found of cut bytes is what is found of all, unless nothing is cut off.
 pub data Alike (place : ℕ) (s : List ℕ) (m : ℕ) : Type 0 where
   uncut : take m s ≡ s → Alike place s m
-  stopped : (r : ReportRefusal) → found place (sheets_in (take m s)) ≡ refusal r → found place (sheets_in s) ≡ refusal r → Alike place s m
+  stopped : (r : ReportRefusal) → found place (sheets_in (take m s)) ≡ Err r → found place (sheets_in s) ≡ Err r → Alike place s m
 
 module _ (place : ℕ) (s : List ℕ) (m : ℕ) (longer : m < length s) (enough : most_bytes < m) where
   some_bytes : 0 < length s
@@ -160,8 +159,8 @@ cut_fewer s m =
     )
 
 -- sheets of which one is refused are there
-some_found : (ps : List (List ℕ)) (r : ReportRefusal) → found 1 ps ≡ refusal r → 1 ≤ length ps
-some_found [] r e = absurd (met_not_refused (sym e ∙ none_found 1))
+some_found : (ps : List (List ℕ)) (r : ReportRefusal) → found 1 ps ≡ Err r → 1 ≤ length ps
+some_found [] r e = let w = sym e ∙ none_found 1 in cc
 some_found (p ∷ ps) r e = omega arith
 
 -- So the answer stays where the sheets are not too many.

@@ -1,7 +1,8 @@
 -- Sheets one more: their counts, the lines of the accepted ones, and whether all meet the first question.
+use Rattle.std.specs.Prelude.{Result, Ok, Err}
 use Prim.Native.Nat.{ℕ, zero, suc, ◌+◌, ◌*◌, ◌≤◌, ◌<◌}
 use mathlib.Core.Bool.{Bool, true, false, cond}
-use mathlib.Core.List.{List, [], ◌∷◌, ◌++◌, append_assoc, append-nil, map}
+use mathlib.Core.List.{List, [], ◌∷◌, ◌++◌, append_assoc, append-nil, map, map-append}
 use mathlib.Core.Logic.{◌⊎◌, inl, inr, ⊎_elim}
 use mathlib.Core.Path.{◌≡◌, refl, sym, ap, ◌∙◌}
 use native.Mathlib.Nat.{zero-add}
@@ -11,41 +12,63 @@ use lib.Dec.{eqb}
 use lib.ListN.{length, get_or, set, length-append}
 use Rattle.pair.proofs.Numbers.{by_test}
 use Rattle.questions.specs.Claims.{test}
-use Rattle.questions.specs.Asking.{asked_from, Finding, refusal, met, first_of}
+use Rattle.questions.specs.Asking.{asked_from, first_of}
 use Rattle.questions.specs.Outcomes.{Outcome, refused, written, answer_of}
 use Rattle.questions.proofs.Laws.{Holds-test, fails_test, asked_fails, asked_passes, none_asked}
-use Rattle.lines.specs.Splitting.{joined}
 use Rattle.lines.specs.Texts.{longest}
-use Rattle.lines.proofs.Laws.{joined_none, joined_one, joined-append, AllLong}
 use Rattle.certificate.specs.declared.Refusal.{Refusal}
 use Rattle.certificate.specs.Keys.{certificate_fields}
 use Rattle.certificate.specs.Refusals.{refusal_answer}
-use Rattle.certificate.proofs.Laws.{refusal_numbered, up_to_eleven}
+use Rattle.certificate.proofs.Laws.{bad_outcome, right_outcome, refused_as_judged, shown_as_judged, up_to_eleven, written_as_judged}
+use Rattle.certificate.specs.Certificates.{certificate_of, figures_in, sheet_in}
+use Rattle.certificate.specs.Questions.{verdict, verdict_of}
+use Rattle.section.specs.declared.Sheet.{Sheet}
+use Rattle.section.specs.declared.Figures.{Figures}
 use Rattle.catalogue.specs.declared.ReportRefusal.{ReportRefusal}
 use Rattle.catalogue.specs.declared.ReportRefusal.TheVariants.{Misspelt}
-use Rattle.catalogue.specs.declared.judging.Judged.{Judged}
+use Rattle.catalogue.specs.declared.judging.Row.{Row}
 use Rattle.catalogue.specs.Catalogues.{certified, number_of, counted, rows_at, rows_from}
 use Rattle.catalogue.specs.Outcome.{spelt}
-use Rattle.catalogue.specs.Forms.{judged_of, row_of, counts_of, entries}
+use Rattle.catalogue.specs.Forms.{row_of, number_answered, rows_entered, rows_of, numbers_of, counts_of}
 
 -- One sheet. Its number is the one that is judged, and at most 11; its line is the one that is entered.
-number_judged : (o : Outcome Refusal) → (judged_of o).number ≡ (answer_of refusal_answer o).refusal
-unfolding judged_of answer_of
-number_judged (refused r) = refl
-number_judged (written c) = refl
+number_judged : (place : ℕ) (o : Outcome Refusal) → number_answered (row_of place o) ≡ (answer_of refusal_answer o).refusal
+unfolding row_of
+number_judged place (refused r) = refl
+number_judged place (written c) = refl
 
-pub number_is : (p : List ℕ) → (judged_of (certified p)).number ≡ number_of p
+pub number_is : (place : ℕ) (p : List ℕ) → number_answered (row_of place (certified p)) ≡ number_of p
 unfolding number_of
-number_is p = number_judged (certified p)
+number_is place p = number_judged place (certified p)
 
 pub number_most : (p : List ℕ) → number_of p ≤ 11
 unfolding number_of certified
 number_most p = up_to_eleven p (longest certificate_fields) (omega arith)
 
-row_judged : (place : ℕ) (o : Outcome Refusal) → joined (rows_at place o) ≡ row_of place (judged_of o)
-unfolding rows_at judged_of
-row_judged place (refused r) = joined_none ∙ rw (ne_eqb (refusal_answer r).refusal 0 (refusal_numbered r))
-row_judged place (written c) = joined_one _
+-- What the code judges of a sheet.
+module _ (s : List ℕ) (place : ℕ) where
+  pub judged_bad : {r : Refusal} → sheet_in s ≡ Err r → row_of place (certified s) ≡ Err r
+  unfolding row_of certified
+  judged_bad {r} e = ap (row_of place) (bad_outcome s (longest certificate_fields) r e)
+
+  module _ {q : Sheet} (e : sheet_in s ≡ Ok q) where
+    pub judged_refused : {r : Refusal} → verdict_of (verdict q) ≡ Err r → row_of place (certified s) ≡ Err r
+    unfolding row_of certified
+    judged_refused {r} v = ap (row_of place) (right_outcome s (longest certificate_fields) q e ∙ refused_as_judged q (longest certificate_fields) v)
+
+    pub judged_row : {f : Figures} → verdict_of (verdict q) ≡ Ok f → row_of place (certified s) ≡ Ok (record { place = place; area = f.area; axial = f.axial })
+    unfolding row_of certified
+    judged_row {f} v =
+        let L = longest certificate_fields in
+        let shown = shown_as_judged q L v in
+        ap (row_of place) (right_outcome s L q e ∙ written_as_judged q L v (omega arith))
+        ∙ ap {B = Result Row Refusal} (λ (n : ℕ). Ok (record { place = place; area = n; axial = (figures_in (certificate_of q)).axial })) (sym shown.0)
+        ∙ ap {B = Result Row Refusal} (λ (n : ℕ). Ok (record { place = place; area = f.area; axial = n })) (sym shown.1)
+
+row_numbers : (place : ℕ) (o : Outcome Refusal) → map numbers_of (rows_entered (row_of place o)) ≡ rows_at place o
+unfolding rows_at row_of
+row_numbers place (refused r) = refl
+row_numbers place (written c) = refl
 
 -- How many sheets are answered with a number.
 pub counted_more : (ps : List (List ℕ)) (p : List ℕ) (k : ℕ) → counted (ps ++ (p ∷ [])) k ≡ counted ps k + cond (eqb (number_of p) k) 1 0
@@ -114,50 +137,37 @@ module _ (ps : List (List ℕ)) where
       ∙ sym (counts_are (ps ++ (p ∷ [])))
 
 -- The lines of the accepted sheets, and of one sheet more.
-rows_more : (place : ℕ) (ps : List (List ℕ)) (p : List ℕ) → rows_from place (ps ++ (p ∷ [])) ≡ rows_from place ps ++ rows_at (place + length ps) (certified p)
-unfolding rows_from
-rows_more place [] p = append-nil (rows_at place (certified p)) ∙ ap (λ (k : ℕ). rows_at k (certified p)) (sym (omega arith))
+pub rows_more : (place : ℕ) (ps : List (List ℕ)) (p : List ℕ) → rows_of place (ps ++ (p ∷ [])) ≡ rows_of place ps ++ rows_entered (row_of (place + length ps) (certified p))
+unfolding rows_of
+rows_more place [] p = append-nil (rows_entered (row_of place (certified p))) ∙ ap (λ (k : ℕ). rows_entered (row_of k (certified p))) (sym (omega arith))
 rows_more place (q ∷ ps) p =
     let next : place + 1 + length ps ≡ place + suc (length ps) = omega arith in
-    ap (λ (l : List (List ℕ)). rows_at place (certified q) ++ l) (rows_more (place + 1) ps p ∙ ap (λ (k : ℕ). rows_from (place + 1) ps ++ rows_at k (certified p)) next)
-    ∙ sym (append_assoc (rows_at place (certified q)) (rows_from (place + 1) ps) (rows_at (place + suc (length ps)) (certified p)))
+    ap (λ (l : List Row). rows_entered (row_of place (certified q)) ++ l)
+    (rows_more (place + 1) ps p ∙ ap (λ (k : ℕ). rows_of (place + 1) ps ++ rows_entered (row_of k (certified p))) next)
+    ∙ sym (append_assoc (rows_entered (row_of place (certified q))) (rows_of (place + 1) ps) (rows_entered (row_of (place + suc (length ps)) (certified p))))
 
-pub entries_none : entries [] ≡ []
-unfolding entries rows_from
-entries_none = joined_none
+-- their numbers are the report's
+pub rows_numbers : (place : ℕ) (ps : List (List ℕ)) → map numbers_of (rows_of place ps) ≡ rows_from place ps
+unfolding rows_of rows_from
+rows_numbers place [] = refl
+rows_numbers place (p ∷ ps) =
+    map-append numbers_of (rows_entered (row_of place (certified p))) (rows_of (place + 1) ps)
+    ∙ ap (λ (l : List (List ℕ)). l ++ map numbers_of (rows_of (place + 1) ps)) (row_numbers place (certified p))
+    ∙ ap (λ (l : List (List ℕ)). rows_at place (certified p) ++ l) (rows_numbers (place + 1) ps)
 
-pub entries_more : (ps : List (List ℕ)) (p : List ℕ) → entries (ps ++ (p ∷ [])) ≡ entries ps ++ row_of (1 + length ps) (judged_of (certified p))
-unfolding entries
-entries_more ps p =
-    ap joined (rows_more 1 ps p) ∙ joined-append (rows_from 1 ps) (rows_at (1 + length ps) (certified p))
-    ∙ ap (λ (l : List ℕ). joined (rows_from 1 ps) ++ l) (row_judged (1 + length ps) (certified p))
+row_most : (r : Result Row Refusal) → length (rows_entered r) ≤ 1
+row_most (Ok r) = omega arith
+row_most (Err r) = omega arith
 
--- each line has three numbers
-row_long : (place : ℕ) (o : Outcome Refusal) (rows : List (List ℕ)) → AllLong 3 rows → AllLong 3 (rows_at place o ++ rows)
-unfolding rows_at
-row_long place (refused r) rows h = h
-row_long place (written c) rows h = (refl, h)
-
-pub rows_long : (place : ℕ) (ps : List (List ℕ)) → AllLong 3 (rows_from place ps)
-unfolding rows_from
-rows_long place [] = tt
-rows_long place (p ∷ ps) = row_long place (certified p) (rows_from (place + 1) ps) (rows_long (place + 1) ps)
-
-pub row_most : (place : ℕ) (j : Judged) → length (row_of place j) ≤ 3
-row_most place j =
-    by_test (eqb j.number 0) (λ b. length (cond b (place ∷ j.area ∷ j.axial ∷ []) []) ≤ 3) (λ e. omega arith) (λ e. omega arith)
-
-pub entries_most : (place : ℕ) (ps : List (List ℕ)) → length (joined (rows_from place ps)) ≤ length ps * 3
-unfolding rows_from
-entries_most place [] = omega (arith, ap length (joined_none {A = ℕ}))
-entries_most place (p ∷ ps) =
+pub rows_most : (place : ℕ) (ps : List (List ℕ)) → length (rows_of place ps) ≤ length ps
+unfolding rows_of
+rows_most place [] = omega arith
+rows_most place (p ∷ ps) =
     omega (
       arith,
-      ap length (joined-append (rows_at place (certified p)) (rows_from (place + 1) ps)),
-      length-append (joined (rows_at place (certified p))) (joined (rows_from (place + 1) ps)),
-      ap length (row_judged place (certified p)),
-      row_most place (judged_of (certified p)),
-      entries_most (place + 1) ps,
+      length-append (rows_entered (row_of place (certified p))) (rows_of (place + 1) ps),
+      row_most (row_of place (certified p)),
+      rows_most (place + 1) ps,
     )
 
 -- Whether sheets meet the first question.
@@ -173,15 +183,15 @@ unspelt_test : (p : List ℕ) → number_of p ≡ 1 → test (spelt p) ≡ false
 unspelt_test p e = fails_test (spelt p) (⊎_elim (λ z. omega (arith, e, z)) (λ m. omega (arith, e, m)))
 
 -- what is found of sheets, the first being at this place
-abbrev pub found : ℕ → List (List ℕ) → Finding ReportRefusal
+abbrev pub found : ℕ → List (List ℕ) → Result Unit ReportRefusal
 found place ps = first_of (asked_from Misspelt place (map spelt ps))
 
-pub none_found : (place : ℕ) → found place [] ≡ met
+pub none_found : (place : ℕ) → found place [] ≡ Ok tt
 none_found place = none_asked Misspelt place
 
 -- the first sheet fails, or passes on to those behind
 module _ (place : ℕ) {ps qs : List (List ℕ)} {p : List ℕ} (e : ps ≡ p ∷ qs) where
-  pub fails_here : number_of p ≡ 1 → found place ps ≡ refusal (Misspelt place)
+  pub fails_here : number_of p ≡ 1 → found place ps ≡ Err (Misspelt place)
   fails_here n = asked_fails Misspelt place (ap (map spelt) e) (unspelt_test p n)
 
   pub passes_here : (number_of p ≡ 1 → ⊥) → found place ps ≡ found (place + 1) qs

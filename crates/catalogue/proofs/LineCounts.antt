@@ -1,11 +1,12 @@
 -- Counting lines part by part, and the sheets that they make.
 use Prim.Native.Nat.{ℕ, zero, suc, ◌+◌, ◌≤◌, ◌<◌, min}
-use mathlib.Core.Bool.{Bool, false, cond}
+use mathlib.Core.Bool.{Bool, true, false, cond}
 use mathlib.Core.List.{List, [], ◌∷◌, ◌++◌, append-nil}
 use mathlib.Core.Path.{◌≡◌, refl, sym, ap, ◌∙◌}
 use native.Mathlib.Omega.{arith}
-use borrow.Author.Tests.{eqb-true, eqb-false}
-use lib.Dec.{eqb}
+use borrow.Author.Tests.{eqb-true, eqb-false, leb-true, leb-false}
+use lib.Dec.{eqb, leb}
+use Rattle.std.specs.Int.{from_bool}
 use lib.ListN.{length}
 use Rattle.pair.proofs.Numbers.{by_test}
 use Rattle.lines.specs.Splitting.{newlines, unended}
@@ -52,6 +53,16 @@ module _ (s part : List ℕ) where
       ∙ ap (λ (n : ℕ). counting n (cond (eqb (length part) 0) (eqb (unended s) 1) (eqb (unended part) 1))) newlines_on
       ∙ ap (counting (min (newlines (s ++ part)) newlines_enough)) unended_then
 
+-- as the code counts it
+module _ (c : LineCount) (part : List ℕ) {n : ℕ} (e : n ≡ min (c.newlines + newlines part) newlines_enough) where
+  pub counted_empty : eqb (length part) 0 ≡ true → counting n c.unended ≡ counted_on c part
+  unfolding counted_on
+  counted_empty h = ap (λ (k : ℕ). counting k c.unended) e ∙ rw h
+
+  pub counted_some : eqb (length part) 0 ≡ false → {u : Bool} → u ≡ eqb (unended part) 1 → counting n u ≡ counted_on c part
+  unfolding counted_on
+  counted_some h {u} g = ap (λ (k : ℕ). counting k u) e ∙ ap (counting (min (c.newlines + newlines part) newlines_enough)) g ∙ rw h
+
 -- The sheets that are counted: exact where there are not too many.
 rest_counted : (u : ℕ) → u ≤ 1 → cond (eqb u 1) 1 0 ≡ u
 rest_counted zero h = refl
@@ -69,3 +80,15 @@ module _ (s : List ℕ) where
   pub counted_over : most_sheets < counted_sheets → most_sheets < length (sheets_in s)
   unfolding sheets_counted line_count
   counted_over h = omega (arith, sheets_count s, rest_counted (unended s) (unended_most s))
+
+  -- sheets that are countable are counted as such
+  pub counted_within : 1 ≤ length (sheets_in s) → length (sheets_in s) ≤ most_sheets → (1 ≤ counted_sheets) × (counted_sheets ≤ most_sheets)
+  counted_within some few =
+      by_test (leb counted_sheets most_sheets) (λ b. (1 ≤ counted_sheets) × (counted_sheets ≤ most_sheets))
+      (λ t. let h = leb-true counted_sheets most_sheets t in (omega (arith, counted_exactly h, some), h))
+      (λ f. absurd (omega (arith, counted_over (leb-false counted_sheets most_sheets f), few)))
+
+-- 1 for a line that is not ended
+pub byte_is : (b : Bool) → from_bool b ≡ cond b 1 0
+byte_is true = refl
+byte_is false = refl

@@ -1,39 +1,37 @@
 -- The report's text, its sums and its length.
+use Rattle.std.specs.List.{fold, sum_by}
 use Prim.Native.Nat.{ℕ, zero, suc, ◌+◌, ◌*◌, ◌≤◌, ◌<◌}
 use mathlib.Core.List.{List, [], ◌∷◌, ◌++◌, map}
 use mathlib.Core.Path.{◌≡◌, refl, sym, ap, ◌∙◌}
 use native.Mathlib.Omega.{arith}
-use lib.ListN.{length, get_or, drop, length-drop, drop_of_length-le}
-use lib.Seq.{drop-drop, get_or-take, get_or-drop}
-use Rattle.questions.specs.Outcomes.{Outcome, refused, written, fitted}
+use lib.ListN.{length, get_or}
+use Rattle.questions.specs.Outcomes.{Outcome, refused, written}
 use Rattle.lines.specs.Texts.{longest}
 use Rattle.lines.specs.Runs.{runs, rows_text}
-use Rattle.lines.proofs.Laws.{runs_none, runs_next, runs-one, runs_of_all, rows_join}
+use Rattle.lines.proofs.Laws.{runs-one, rows_join}
 use Rattle.certificate.specs.declared.Refusal.{Refusal}
 use Rattle.certificate.specs.Keys.{certificate_fields}
 use Rattle.certificate.proofs.Laws.{shown_below}
+use Rattle.catalogue.specs.declared.judging.Row.{Row}
 use Rattle.catalogue.specs.Catalogues.{certified, rows_at, rows_from, total, summary, alone, report_with, report_of}
-use Rattle.catalogue.specs.declared.ReportRefusal.TheVariants.{Room}
-use Rattle.catalogue.specs.Forms.{counts_of, entries, summary_of, report_text, fitted_report, entered_report}
-use Rattle.catalogue.proofs.EntryLaws.{rows_long}
+use Rattle.catalogue.specs.Forms.{counts_of, rows_of, numbers_of, summary_of, report_text}
+use Rattle.catalogue.proofs.EntryLaws.{rows_numbers}
 
--- the numbers that are entered, cut into rows, are the lines
-pub rows_entered : (ps : List (List ℕ)) → runs 3 (entries ps) ≡ rows_from 1 ps
-unfolding entries
-rows_entered ps = runs_of_all 3 (rows_from 1 ps) (omega arith) (rows_long 1 ps)
-
--- The sum of a column, from number i on.
-module _ (ns : List ℕ) (column i : ℕ) where
-  pub total_none : length ns ≤ i → total column (runs 3 (drop i ns)) ≡ 0
+-- The sum of a column, as the code adds it.
+module _ (column : ℕ) (f : Row → ℕ) (at : (r : Row) → get_or (numbers_of r) column 0 ≡ f r) where
+  added : (a : ℕ) (rs : List Row) → fold (λ a x. a + f x) a rs ≡ a + total column (map numbers_of rs)
   unfolding total
-  total_none h = ap (λ (l : List ℕ). total column (runs 3 l)) (drop_of_length-le ns {i = i} h) ∙ ap (total column) (runs_none 3)
+  added a [] = omega arith
+  added a (r ∷ rs) = omega (arith, added (a + f r) rs, at r)
 
-  pub total_next : i < length ns → column < 3 → total column (runs 3 (drop i ns)) ≡ get_or ns (i + column) 0 + total column (runs 3 (drop (i + 3) ns))
-  unfolding total
-  total_next h g =
-      ap (total column) (runs_next 3 (drop i ns) (omega arith) (omega (arith, length-drop i ns)))
-      ∙ ap (λ (x : ℕ). x + total column (runs 3 (drop 3 (drop i ns)))) (get_or-take 3 (drop i ns) column 0 g ∙ get_or-drop i ns column 0)
-      ∙ ap (λ (l : List ℕ). get_or ns (i + column) 0 + total column (runs 3 l)) (drop-drop 3 i ns)
+  column_sum : (rs : List Row) → sum_by f rs ≡ total column (map numbers_of rs)
+  column_sum rs = omega (arith, added 0 rs)
+
+pub areas_are : (ps : List (List ℕ)) → sum_by (λ r. r.area) (rows_of 1 ps) ≡ total 1 (rows_from 1 ps)
+areas_are ps = column_sum 1 (λ r. r.area) (λ r. refl) (rows_of 1 ps) ∙ ap (total 1) (rows_numbers 1 ps)
+
+pub axials_are : (ps : List (List ℕ)) → sum_by (λ r. r.axial) (rows_of 1 ps) ≡ total 2 (rows_from 1 ps)
+axials_are ps = column_sum 2 (λ r. r.axial) (λ r. refl) (rows_of 1 ps) ∙ ap (total 2) (rows_numbers 1 ps)
 
 -- figures have at most ten digits, and so the sums fit a word
 abbrev FigureColumn : ℕ → Type 0
@@ -60,15 +58,23 @@ unfolding counts_of summary
 summary_is ps = refl
 
 -- and the report of it
-pub report_is : (ps : List (List ℕ)) → report_text (summary ps (rows_from 1 ps)) (entries ps) ≡ report_of ps
+pub report_is : (ps : List (List ℕ)) → report_text (summary ps (rows_from 1 ps)) (rows_of 1 ps) ≡ report_of ps
 unfolding report_of report_with
 report_is ps =
-    ap (λ (rows : List (List ℕ)). rows_text (runs 1 (summary ps (rows_from 1 ps))) ++ rows_text rows) (rows_entered ps)
+    ap (λ (rows : List (List ℕ)). rows_text (runs 1 (summary ps (rows_from 1 ps))) ++ rows_text rows) (rows_numbers 1 ps)
     ∙ ap (λ (rows : List (List ℕ)). rows_text rows ++ rows_text (rows_from 1 ps)) (runs-one (summary ps (rows_from 1 ps)))
     ∙ sym (rows_join (map alone (summary ps (rows_from 1 ps))) (rows_from 1 ps))
 
-pub entered_report_lem : (ps : List (List ℕ)) (room : ℕ) → entered_report (length ps) (counts_of ps) (entries ps) room ≡ fitted Room room (report_of ps)
-entered_report_lem ps room =
-    ap (λ (rows : List (List ℕ)). fitted_report (summary_of (length ps) (counts_of ps) (total 1 rows) (total 2 rows)) (entries ps) room) (rows_entered ps)
-    ∙ ap (λ (l : List ℕ). fitted_report l (entries ps) room) (summary_is ps)
-    ∙ ap (fitted Room room) (report_is ps)
+-- with the counts and the rows that the code has
+pub entered_text : (ps : List (List ℕ)) {n : ℕ} {counts : List ℕ} {rows : List Row} {area axial : ℕ} → n ≡ length ps → counts ≡ counts_of ps → rows ≡ rows_of 1 ps
+    → area ≡ sum_by (λ r. r.area) rows → axial ≡ sum_by (λ r. r.axial) rows → report_text (summary_of n counts area axial) rows ≡ report_of ps
+entered_text ps {n} {counts} {rows} {area} {axial} en ec er ea ex =
+    let a : area ≡ total 1 (rows_from 1 ps) = ea ∙ ap (λ (rs : List Row). sum_by (λ r. r.area) rs) er ∙ areas_are ps in
+    let x : axial ≡ total 2 (rows_from 1 ps) = ex ∙ ap (λ (rs : List Row). sum_by (λ r. r.axial) rs) er ∙ axials_are ps in
+    ap (λ (k : ℕ). report_text (summary_of k counts area axial) rows) en
+    ∙ ap (λ (l : List ℕ). report_text (summary_of (length ps) l area axial) rows) ec
+    ∙ ap (λ (rs : List Row). report_text (summary_of (length ps) (counts_of ps) area axial) rs) er
+    ∙ ap (λ (k : ℕ). report_text (summary_of (length ps) (counts_of ps) k axial) (rows_of 1 ps)) a
+    ∙ ap (λ (k : ℕ). report_text (summary_of (length ps) (counts_of ps) (total 1 (rows_from 1 ps)) k) (rows_of 1 ps)) x
+    ∙ ap (λ (l : List ℕ). report_text l (rows_of 1 ps)) (summary_is ps)
+    ∙ report_is ps

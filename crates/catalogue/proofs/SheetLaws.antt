@@ -14,7 +14,7 @@ use Rattle.lines.proofs.Laws.{joined_none, joined_one, joined-append, front, fro
 use Rattle.lines.proofs.Laws.{split_none, split_some, split_most, split_count, split_append, split_joined, runs_none, runs_next, runs_count}
 use Rattle.section.specs.Sheets.{sheet_lines}
 use Rattle.catalogue.specs.Catalogues.{sheets_in}
-use Rattle.catalogue.specs.Forms.{sheet_end}
+use Rattle.catalogue.specs.Forms.{sheet_length}
 use Rattle.catalogue.specs.Promises.{WholeSheet, SheetsOf}
 
 -- The first sheet.
@@ -40,23 +40,18 @@ some_taken s (suc n) e h = omega arith
 pub first_some : (s : List ℕ) → 0 < length s → 0 < length (first_sheet s)
 first_some s h = some_taken s (length (first_sheet s)) (lines_behind_front sheet_lines s) h
 
--- The sheet that begins at a place, and those behind it.
-module _ (s : List ℕ) (at : ℕ) (inside : at < length s) where
-  some_left : 0 < length (drop at s)
-  some_left = omega (arith, length-drop at s)
+-- as the code takes it
+pub front_is : (s : List ℕ) → length (front sheet_lines s) ≡ sheet_length s
+unfolding sheet_length
+front_is s = refl
 
-  pub end_further : at < sheet_end s at
-  unfolding sheet_end
-  end_further = omega (arith, first_some (drop at s) some_left)
+pub sheet_some : (s : List ℕ) → 0 < length s → 0 < sheet_length s
+unfolding sheet_length
+sheet_some s h = first_some s h
 
-  pub sheets_at : sheets_in (drop at s) ≡ take (sheet_end s at - at) (drop at s) ∷ sheets_in (drop (sheet_end s at) s)
-  unfolding sheet_end
-  sheets_at =
-      let n = length (first_sheet (drop at s)) in
-      let same : n ≡ at + n - at = omega arith in
-      sheets_next (drop at s) some_left
-      ∙ ap (λ (l : List ℕ). first_sheet (drop at s) ∷ sheets_in l) (drop-drop n at s)
-      ∙ ap (λ (l : List ℕ). l ∷ sheets_in (drop (at + n) s)) (front_taken sheet_lines (drop at s) ∙ ap (λ (k : ℕ). take k (drop at s)) same)
+pub sheets_first : (s : List ℕ) → 0 < length s → sheets_in s ≡ take (sheet_length s) s ∷ sheets_in (drop (sheet_length s) s)
+unfolding sheet_length
+sheets_first s h = sheets_next s h ∙ ap (λ (l : List ℕ). l ∷ sheets_in (drop (length (first_sheet s)) s)) (front_taken sheet_lines s)
 
 -- how many there are
 pub sheets_count : (s : List ℕ) → length (sheets_in s) ≡ (newlines s + unended s + (sheet_lines - 1)) / sheet_lines

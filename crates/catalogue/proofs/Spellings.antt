@@ -1,4 +1,5 @@
 -- The fifteenth question, both ways: all sheets meet the first question of a sheet, or one is the first that does not.
+use Rattle.std.specs.Prelude.{Ok, Err}
 use Prim.Native.Nat.{ℕ, zero, suc, ◌+◌, ◌-◌, ◌≤◌, ◌<◌}
 use mathlib.Core.List.{List, [], ◌∷◌, map}
 use mathlib.Core.Logic.{◌⊎◌, inl, inr, ◌↔◌}
@@ -6,7 +7,7 @@ use mathlib.Core.Path.{◌≡◌, refl, sym, ap, ◌∙◌, subst}
 use native.Mathlib.Omega.{arith}
 use lib.ListN.{length, get_or, length-map}
 use Rattle.questions.specs.Claims.{Claim, Holds}
-use Rattle.questions.specs.Asking.{refusal, met, first_of}
+use Rattle.questions.specs.Asking.{first_of}
 use Rattle.questions.proofs.Laws.{All-when_met, met_when_all, no_when_refused, refused_when_no, All-asked, each_asked, no_among, no_asked}
 use Rattle.lines.specs.Texts.{longest}
 use Rattle.certificate.specs.Keys.{certificate_fields}
@@ -65,7 +66,7 @@ module _ (ps : List (List ℕ)) where
   pub at_index : (i : ℕ) → sheet_at ps (suc i) ≡ get_or ps i []
   at_index i = let same : suc i - 1 ≡ i = omega arith in ap (λ (k : ℕ). get_or ps k []) same
 
-  pub all_spelt : (first_of (question15 ps) ≡ met) ↔ AllSpelt ps
+  pub all_spelt : (first_of (question15 ps) ≡ Ok tt) ↔ AllSpelt ps
   unfolding question15
   all_spelt = (
     λ e. record {
@@ -82,7 +83,7 @@ module _ (ps : List (List ℕ)) where
   none_misspelt s i inside = not_one (get_or ps i []) (subst Spelt (at_index i) (s.each (suc i) (omega arith, omega arith)))
 
   -- the first that does not, at its place
-  pub first_found : {r : ReportRefusal} → first_of (question15 ps) ≡ refusal r → (place : ℕ) × FirstAt ps place × (r ≡ Misspelt place)
+  pub first_found : {r : ReportRefusal} → first_of (question15 ps) ≡ Err r → (place : ℕ) × FirstAt ps place × (r ≡ Misspelt place)
   unfolding question15
   first_found {r} e =
       let m = no_among Misspelt (spelt []) 1 claims r (no_when_refused (question15 ps) r e) in
@@ -97,7 +98,7 @@ module _ (ps : List (List ℕ)) where
         sym m.which ∙ ap Misspelt next,
       )
 
-  pub first_told : (place : ℕ) → FirstAt ps place → first_of (question15 ps) ≡ refusal (Misspelt place)
+  pub first_told : (place : ℕ) → FirstAt ps place → first_of (question15 ps) ≡ Err (Misspelt place)
   unfolding question15
   first_told place f =
       let i = place - 1 in

@@ -1,5 +1,5 @@
 // How many sheets some bytes are, counted without reading any of them.
-ghost use Rattle.std.specs.Prelude.{◌≡◌, [], cond, ◌+◌, ◌≤◌, min};
+ghost use Rattle.std.specs.Prelude.{◌≡◌, [], ◌+◌, min};
 ghost use Rattle.catalogue.specs.Forms.{newlines_enough, line_count, counted_on, sheets_counted};
 
 use crate::MOST_LINES;
@@ -8,7 +8,7 @@ use section::SHEET_LINES;
 
 // The lines of some bytes: newlines, counted up to one more than a full catalogue has, and whether
 // bytes stand behind the last.
-#[derive(Clone, Copy)]
+#[derive(Clone, Copy, Debug, PartialEq, Eq)]
 pub struct LineCount {
     pub newlines: usize,
     pub unended: bool,
@@ -28,13 +28,7 @@ pub fn no_lines() -> LineCount
 fn newlines_with(n: usize, more: usize) -> usize
     ensures { result ≡ min (n + more) newlines_enough }
 {
-    if MOST_LINES < n {
-        return MOST_LINES + 1;
-    }
-    if MOST_LINES - n < more {
-        return MOST_LINES + 1;
-    }
-    n + more
+    n.saturating_add(more).min(MOST_LINES + 1)
 }
 
 // The lines of the bytes counted so far and of this part behind them (`counted_behind` in
@@ -42,32 +36,20 @@ fn newlines_with(n: usize, more: usize) -> usize
 pub fn count_on(counted: LineCount, part: &[u8]) -> LineCount
     ensures { result ≡ counted_on counted part.now }
 {
-    let newlines = newlines_with(counted.newlines, splitting::newline_count(part));
-    if part.len() == 0 {
-        return LineCount {
-            newlines,
-            unended: counted.unended,
-        };
+    LineCount {
+        newlines: newlines_with(counted.newlines, splitting::newline_count(part)),
+        unended: if part.is_empty() {
+            counted.unended
+        } else {
+            splitting::is_unended(part)
+        },
     }
-    let unended = splitting::unended_count(part) == 1;
-    LineCount { newlines, unended }
-}
-
-// 1 for a line that is not ended.
-fn rest_count(unended: bool) -> usize
-    ensures value { result ≡ cond unended 1 0 }
-    ensures upper_bound { result ≤ 1 }
-{
-    if unended {
-        return 1;
-    }
-    0
 }
 
 // The sheets that these lines make, up to one more than a catalogue may have.
 pub fn sheet_count(lines: LineCount) -> usize
     ensures { result ≡ sheets_counted lines }
 {
-    let n = newlines_with(lines.newlines, 0) + rest_count(lines.unended);
-    (n + (SHEET_LINES - 1)) / SHEET_LINES
+    let n = newlines_with(lines.newlines, 0) + usize::from(lines.unended);
+    n.div_ceil(SHEET_LINES)
 }

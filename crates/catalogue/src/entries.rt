@@ -1,84 +1,94 @@
-// The loop over a catalogue's sheets: each is judged once, counted by its answer, and entered in the
-// array of rows where it is accepted.
-ghost use Rattle.std.specs.Prelude.{◌≡◌, ◌+◌, ◌*◌, ◌≤◌, ◌<◌, length, get_or, set, replicate};
-ghost use Rattle.std.proofs.lemmas.List.Edits.{sets};
+// The sheets of a catalogue in order: each is judged once, counted by its answer, and its row entered
+// where it is accepted.
+ghost use Rattle.std.specs.Prelude.{◌≡◌, ◌+◌, ◌<◌, ◌≤◌, [], ◌++◌, length, get_or, set, replicate, OnOk};
+ghost use Rattle.std.specs.Iterator.{at_most};
+ghost use Rattle.arrayvec.specs.ArrayVec.{array_vec_len};
+ghost use Rattle.questions.specs.Asking.{first_of};
 ghost use Rattle.catalogue.specs.Catalogues.{most_sheets, sheets_in};
-ghost use Rattle.catalogue.specs.Forms.{columns, numbers_answered, sheet_end, row_of, EnteredFrom};
+ghost use Rattle.catalogue.specs.Outcome.{question15};
+ghost use Rattle.catalogue.specs.Forms.{numbers_answered, sheet_length, FirstSheet, counts_of, rows_of, number_answered, rows_entered};
 
-use crate::judging;
-use crate::judging::Judged;
+use crate::judging::Row;
+use crate::{ANSWERS, MOST_SHEETS, ReportRefusal, judging};
+use arrayvec::ArrayVec;
+use certificate::Refusal;
 use lines::splitting;
 use section::SHEET_LINES;
 
-// How the loop ends: at the first sheet that fails the first question, or with so many numbers in the
-// array of rows.
-#[derive(Clone, Copy)]
-pub enum Entered {
-    Stopped(u64),
-    Rows(usize),
-}
+// The rows of the accepted sheets.
+pub type Rows = ArrayVec<Row, MOST_SHEETS>;
 
-// The place behind the sheet that begins at `at`.
-fn sheet_end(s: &[u8], at: usize) -> usize
-    requires { at ≤ length s.now }
-    ensures value { result ≡ sheet_end s.now at }
+// How many bytes the first sheet has.
+fn sheet_length(s: &[u8]) -> usize
+    ensures value { result ≡ sheet_length s.now }
     ensures upper_bound { result ≤ length s.now }
+    ensures some { 0 < length s.now → 0 < result }
 {
-    let mut end = at;
-    let mut i = 0;
-    while i < SHEET_LINES {
+    let mut end = 0;
+    for _ in 0..SHEET_LINES {
         end = splitting::line_end(s, end);
-        i += 1;
     }
     end
 }
 
-// One sheet more that is answered with this number.
-fn count_one(counts: &mut [u64], number: usize)
-    requires number_in_bounds { number < length counts.old }
-    requires count_below { get_or counts.old number 0 < most_sheets }
-    ensures { counts.new ≡ set counts.old number (get_or counts.old number 0 + 1) }
-{
-    counts[number] = counts[number] + 1;
+// The sheets of some bytes: each is as many lines as a sheet has, the last perhaps cut short.
+#[derive(Drop)]
+struct Sheets<'a> {
+    rest: &'a [u8],
 }
 
-// The row of an accepted sheet behind the numbers used so far; answers how many are used then.
-fn enter(rows: &mut [u64], used: usize, place: u64, judged: Judged) -> usize
-    requires { used + columns ≤ length rows.old }
-    ensures value { result ≡ used + length (row_of place judged) }
-    ensures rows_after { rows.new ≡ sets rows.old used (row_of place judged) }
-{
-    if judged.number != 0 {
-        return used;
+impl<'a> Iterator for Sheets<'a> {
+    type Item = &'a [u8];
+
+    ghost remaining = { λ s. at_most (length s.rest.now) };
+
+    ghost next_gives = { λ s r t. FirstSheet s.rest.now r t.rest.now };
+
+    fn next(&mut self) -> Option<&'a [u8]> {
+        if self.rest.is_empty() {
+            return None;
+        }
+        let (sheet, behind) = self.rest.split_at(sheet_length(self.rest));
+        self.rest = behind;
+        Some(sheet)
     }
-    let second = used + 1;
-    let third = used + 2;
-    rows[used] = place;
-    rows[second] = judged.area;
-    rows[third] = judged.axial;
-    used + 3
 }
 
-// Judges the sheets of s in order, up to the first that fails the first question.
-pub fn enter_sheets(s: &[u8], counts: &mut [u64], rows: &mut [u64]) -> Entered
+// Counts a sheet under the number that is answered, and enters the row of an accepted one.
+fn enter(counts: &mut [u64; ANSWERS], rows: &mut Rows, judged: Result<Row, Refusal>)
+    requires number { number_answered judged < length numbers_answered }
+    requires count_below { get_or counts.old (number_answered judged) 0 < most_sheets }
+    requires room { array_vec_len rows.old < most_sheets }
+    ensures counts { counts.new ≡ set counts.old (number_answered judged) (get_or counts.old (number_answered judged) 0 + 1) }
+    ensures rows { rows.new.items ≡ rows.old.items ++ rows_entered judged }
+{
+    counts[judging::number(judged) as usize] += 1;
+    if let Ok(row) = judged {
+        rows.push(row);
+    }
+}
+
+// Question 15: judges the sheets of s in order, up to the first that fails the first question.
+pub fn enter_sheets(
+    s: &[u8],
+    counts: &mut [u64; ANSWERS],
+    rows: &mut Rows,
+) -> Result<(), ReportRefusal>
     requires few_sheets { length (sheets_in s.now) ≤ most_sheets }
     requires counts_value { counts.old ≡ replicate (length numbers_answered) 0 }
-    requires rows_len { length rows.old ≡ most_sheets * columns }
-    ensures { EnteredFrom (sheets_in s.now) rows.old counts.new rows.new result }
+    requires rows_value { rows.old.items ≡ [] }
+    ensures finds { result ≡ first_of (question15 (sheets_in s.now)) }
+    ensures counts { OnOk result (counts.new ≡ counts_of (sheets_in s.now)) }
+    ensures rows { OnOk result (rows.new.items ≡ rows_of 1 (sheets_in s.now)) }
 {
-    let mut at = 0;
     let mut place = 0;
-    let mut used = 0;
-    while at < s.len() {
-        let end = sheet_end(s, at);
-        let judged = judging::judge(&s[at..end]);
+    for sheet in (Sheets { rest: s }) {
         place += 1;
-        if judged.number == 1 {
-            return Entered::Stopped(place);
+        let judged = judging::judge(sheet, place);
+        if judging::number(judged) == 1 {
+            return Err(ReportRefusal::Misspelt(place));
         }
-        count_one(counts, judged.number as usize);
-        used = enter(rows, used, place, judged);
-        at = end;
+        enter(counts, rows, judged);
     }
-    Entered::Rows(used)
+    Ok(())
 }

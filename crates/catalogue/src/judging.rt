@@ -1,55 +1,38 @@
 // What one sheet of a catalogue gives.
 ghost use Rattle.std.specs.Prelude.{◌≡◌};
-ghost use Rattle.lines.specs.Texts.{longest};
-ghost use Rattle.questions.specs.Outcomes.{refused};
-ghost use Rattle.certificate.specs.Keys.{certificate_fields};
-ghost use Rattle.certificate.specs.Outcome.{outcome_of};
 ghost use Rattle.catalogue.specs.Catalogues.{certified};
-ghost use Rattle.catalogue.specs.Forms.{judged_of};
+ghost use Rattle.catalogue.specs.Forms.{row_of, number_answered};
 
-use certificate::{ReadSheet, Refusal, Verdict, reading, refusals, verdicts};
-use section::Sheet;
+use certificate::{Refusal, reading, verdicts};
+use questions::answers::Reason;
 
-// The number that writing its certificate answers, room given: 0 where it is accepted, and then its
-// figures.
-#[derive(Clone, Copy)]
-pub struct Judged {
-    pub number: u64,
+// The line of an accepted sheet in a report: its place, and the figures that its certificate shows.
+#[derive(Clone, Copy, Debug, Default, PartialEq, Eq)]
+pub struct Row {
+    pub place: u64,
     pub area: u64,
     pub axial: u64,
 }
 
-fn turned_away(r: Refusal) -> Judged
-    ensures { result ≡ judged_of (refused r) }
+// The line of the sheet at this place, or why writing its certificate refuses it, room given.
+pub fn judge(sheet: &[u8], place: u64) -> Result<Row, Refusal>
+    ensures { result ≡ row_of place (certified sheet.now) }
 {
-    let answer = refusals::refusal_answer(r);
-    Judged {
-        number: answer.refusal,
-        area: 0,
-        axial: 0,
-    }
+    let q = reading::read_sheet(sheet)?;
+    let figures = verdicts::verdict_of(q)?;
+    Ok(Row {
+        place,
+        area: figures.area,
+        axial: figures.axial,
+    })
 }
 
-fn judge_numbers(q: Sheet) -> Judged
-    ensures { result ≡ judged_of (outcome_of q (longest certificate_fields)) }
+// The number that is answered: 0 where the sheet is accepted.
+pub fn number(judged: Result<Row, Refusal>) -> u64
+    ensures { result ≡ number_answered judged }
 {
-    let verdict = verdicts::verdict_of(q);
-    match verdict {
-        Verdict::Refused(r) => turned_away(r),
-        Verdict::Accepted(f) => Judged {
-            number: 0,
-            area: f.area,
-            axial: f.axial,
-        },
-    }
-}
-
-pub fn judge(sheet: &[u8]) -> Judged
-    ensures { result ≡ judged_of (certified sheet.now) }
-{
-    let read = reading::read_sheet(sheet);
-    match read {
-        ReadSheet::BadLine(line) => turned_away(Refusal::Spelling(line)),
-        ReadSheet::Shown(q) => judge_numbers(q),
+    match judged {
+        Ok(_) => 0,
+        Err(reason) => reason.told().refusal,
     }
 }

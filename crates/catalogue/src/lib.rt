@@ -31,7 +31,7 @@ const COLUMNS: usize = 3;
 const SUMMARY: usize = 14;
 
 // Why there is no report.
-#[derive(Clone, Copy)]
+#[derive(Clone, Copy, Debug, PartialEq, Eq)]
 pub enum ReportRefusal {
     // 14: there are no sheets, or over 1,000
     SheetCount,

@@ -1,41 +1,79 @@
 // The report on a catalogue. (docs/WORKING.md, 15.1.)
-ghost use Rattle.std.specs.Prelude.{◌≡◌, ◌*◌, ◌≤◌, ◌<◌, length, get_or};
-ghost use Rattle.questions.specs.Outcomes.{answer_in, buffer_in};
-ghost use Rattle.lines.specs.Runs.{runs};
-ghost use Rattle.catalogue.specs.Catalogues.{most_sheets, total, sheets_in};
+ghost use Rattle.std.specs.Prelude.{◌≡◌, ◌*◌, ◌≤◌, ◌<◌, length};
+ghost use Rattle.std.specs.List.{sum_by};
+ghost use Rattle.questions.specs.Outcomes.{answer_in, length_in, buffer_in};
+ghost use Rattle.lines.specs.Decimal.{row_text};
+ghost use Rattle.catalogue.specs.Catalogues.{most_sheets, longest_report, sheets_in};
 ghost use Rattle.catalogue.specs.Refusals.{report_answer};
 ghost use Rattle.catalogue.specs.Outcome.{report_outcome};
-ghost use Rattle.catalogue.specs.Forms.{columns, word_end, summary_of, fitted_report, entered_report};
+ghost use Rattle.catalogue.specs.Forms.{word_end, numbers_of, summary_of, report_text, fitted_report};
 
-use crate::entries::Entered;
-use crate::{ANSWERS, COLUMNS, MOST_SHEETS, ReportRefusal, SUMMARY, counting, entries, refusals};
-use lines::rows;
-use questions::{Answer, answers};
+use crate::entries::Rows;
+use crate::judging::Row;
+use crate::{
+    ANSWERS, COLUMNS, LONGEST_REPORT, MOST_SHEETS, ReportRefusal, SUMMARY, counting, entries,
+};
+use lines::texts::Text;
+use lines::{rows, texts};
+use questions::Answer;
+use questions::answers::answered;
+use questions::asking::ask;
 
-// The number at i, or 0 past the end.
-fn number_at(numbers: &[u64], i: usize) -> u64
-    ensures { result ≡ get_or numbers.now i 0 }
-{
-    if i < numbers.len() {
-        return numbers[i];
+impl Row {
+    fn numbers(&self) -> [u64; COLUMNS]
+        ensures { result ≡ numbers_of self.now }
+    {
+        [self.place, self.area, self.axial]
     }
-    0
 }
 
-// The sum of a column of the rows.
-fn column_sum(numbers: &[u64], column: usize) -> u64
-    requires column_lt_columns { column < columns }
-    requires few_numbers { length numbers.now ≤ most_sheets * columns }
-    requires numbers_bound { total column (runs columns numbers.now) < word_end }
-    ensures { result ≡ total column (runs columns numbers.now) }
-{
-    let mut sum = 0;
-    let mut i = 0;
-    while i < numbers.len() {
-        sum += number_at(numbers, i + column);
-        i += COLUMNS;
+impl Text for Row {
+    ghost bytes = { λ r. row_text (numbers_of r) };
+
+    fn length(&self) -> usize {
+        rows::Row(&self.numbers()).length()
     }
-    sum
+
+    fn put(&self, out: &mut [u8]) -> usize {
+        rows::Row(&self.numbers()).put(out)
+    }
+}
+
+// A report: the numbers above the rows, one to a line, and the rows.
+#[derive(Clone, Copy, Debug, PartialEq, Eq)]
+struct Listing<'a> {
+    summary: [u64; SUMMARY],
+    rows: &'a [Row],
+}
+
+impl Text for Listing<'_> {
+    ghost bytes = { λ r. report_text r.summary r.rows.now };
+
+    #[tactic(auto, unfolding(lines::specs::Runs::rows_text, lines::specs::Splitting::joined))]
+    fn length(&self) -> usize {
+        let summary = rows::Rows {
+            numbers: &self.summary,
+            width: 1,
+        };
+        let mut n = summary.length();
+        for row in self.rows {
+            n += row.length();
+        }
+        n
+    }
+
+    #[tactic(auto, unfolding(lines::specs::Runs::rows_text, lines::specs::Splitting::joined, questions::specs::Buffers::over))]
+    fn put(&self, out: &mut [u8]) -> usize {
+        let summary = rows::Rows {
+            numbers: &self.summary,
+            width: 1,
+        };
+        let mut at = summary.put(out);
+        for row in self.rows {
+            at = texts::put_behind(out, at, row);
+        }
+        at
+    }
 }
 
 // The numbers above the rows.
@@ -48,48 +86,50 @@ fn summary(sheets: u64, counts: [u64; ANSWERS], area: u64, axial: u64) -> [u64; 
     ]
 }
 
-// Question 12: the report is written if it fits the buffer.
-fn put(numbers: [u64; SUMMARY], entered: &[u64], buffer: &mut [u8]) -> Answer
-    requires { length entered.now ≤ most_sheets * columns }
-    ensures value { result ≡ answer_in report_answer (fitted_report numbers entered.now) buffer.old }
-    ensures buffer_after { buffer.new ≡ buffer_in (fitted_report numbers entered.now) buffer.old }
+// The sums of the areas and of the axial resistances.
+fn sums(rows: &[Row]) -> (u64, u64)
+    requires areas_fit { sum_by (λ r. r.area) rows.now < word_end }
+    requires axials_fit { sum_by (λ r. r.axial) rows.now < word_end }
+    ensures { result ≡ (sum_by (λ r. r.area) rows.now, sum_by (λ r. r.axial) rows.now) }
 {
-    let needed = rows::row_length(&numbers) + rows::row_length(entered);
-    if buffer.len() < needed {
-        return refusals::report_answer(ReportRefusal::Room(needed as u64));
-    }
-    let at = rows::put_rows(buffer, &numbers, 1);
-    let n = at + rows::put_rows(&mut buffer[at..], entered, COLUMNS);
-    answers::answer(0, 0, n as u64)
+    (
+        rows.iter().map(|row| row.area).sum(),
+        rows.iter().map(|row| row.axial).sum(),
+    )
 }
 
-// The report on n sheets with these counts and rows.
-fn put_entered(n: u64, counts: [u64; ANSWERS], entered: &[u64], buffer: &mut [u8]) -> Answer
-    requires few_rows { length entered.now ≤ most_sheets * columns }
-    requires areas_fit { total 1 (runs columns entered.now) < word_end }
-    requires axials_fit { total 2 (runs columns entered.now) < word_end }
-    ensures value { result ≡ answer_in report_answer (entered_report n counts entered.now) buffer.old }
-    ensures buffer_after { buffer.new ≡ buffer_in (entered_report n counts entered.now) buffer.old }
+// Question 12: the report is written if it fits the buffer; answers its length.
+fn put(summary: [u64; SUMMARY], rows: &[Row], buffer: &mut [u8]) -> Result<usize, ReportRefusal>
+    requires { length (report_text summary rows.now) ≤ longest_report }
+    ensures value { result ≡ length_in (fitted_report summary rows.now) buffer.old }
+    ensures buffer_after { buffer.new ≡ buffer_in (fitted_report summary rows.now) buffer.old }
 {
-    let area = column_sum(entered, 1);
-    let axial = column_sum(entered, 2);
-    put(summary(n, counts, area, axial), entered, buffer)
+    let report = Listing { summary, rows };
+    Ok(texts::write_fitted(&report, LONGEST_REPORT, buffer)?)
 }
 
 // The report on so many sheets, which are not too many.
-fn report_on(sheets: &[u8], n: usize, buffer: &mut [u8]) -> Answer
+fn report_on(sheets: &[u8], n: usize, buffer: &mut [u8]) -> Result<usize, ReportRefusal>
     requires all_sheets { n ≡ length (sheets_in sheets.now) }
     requires countable { (1 ≤ n) × (n ≤ most_sheets) }
-    ensures value { result ≡ answer_in report_answer (report_outcome sheets.now) buffer.old }
+    ensures value { result ≡ length_in (report_outcome sheets.now) buffer.old }
     ensures buffer_after { buffer.new ≡ buffer_in (report_outcome sheets.now) buffer.old }
 {
     let mut counts = [0u64; ANSWERS];
-    let mut rows = [0u64; MOST_SHEETS * COLUMNS];
-    let entered = entries::enter_sheets(sheets, &mut counts, &mut rows);
-    match entered {
-        Entered::Stopped(place) => refusals::report_answer(ReportRefusal::Misspelt(place)),
-        Entered::Rows(used) => put_entered(n as u64, counts, &rows[..used], buffer),
-    }
+    let mut rows = Rows::new();
+    entries::enter_sheets(sheets, &mut counts, &mut rows)?;
+    let (area, axial) = sums(&rows);
+    put(summary(n as u64, counts, area, axial), &rows, buffer)
+}
+
+// Question 14, and those behind it; answers the report's length.
+fn write(sheets: &[u8], buffer: &mut [u8]) -> Result<usize, ReportRefusal>
+    ensures value { result ≡ length_in (report_outcome sheets.now) buffer.old }
+    ensures buffer_after { buffer.new ≡ buffer_in (report_outcome sheets.now) buffer.old }
+{
+    let n = counting::sheet_count(counting::count_on(counting::no_lines(), sheets));
+    ask(1 <= n && n <= MOST_SHEETS, ReportRefusal::SheetCount)?;
+    report_on(sheets, n, buffer)
 }
 
 // The report on a catalogue, into the buffer.
@@ -97,13 +137,5 @@ pub fn report(sheets: &[u8], buffer: &mut [u8]) -> Answer
     ensures value { result ≡ answer_in report_answer (report_outcome sheets.now) buffer.old }
     ensures buffer_after { buffer.new ≡ buffer_in (report_outcome sheets.now) buffer.old }
 {
-    let lines = counting::count_on(counting::no_lines(), sheets);
-    let n = counting::sheet_count(lines);
-    if n == 0 {
-        return refusals::report_answer(ReportRefusal::SheetCount);
-    }
-    if MOST_SHEETS < n {
-        return refusals::report_answer(ReportRefusal::SheetCount);
-    }
-    report_on(sheets, n, buffer)
+    answered(write(sheets, buffer))
 }

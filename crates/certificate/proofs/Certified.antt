@@ -1,5 +1,6 @@
 -- What `write` does with a sheet that its verdict is known of, in a room for any certificate: for crates above that judge sheets and write no
 -- certificate.
+use Rattle.std.specs.Prelude.{Ok, Err}
 use Prim.Native.Nat.{ℕ, ◌-◌, ◌≤◌, ◌<◌}
 use mathlib.Core.List.{List, []}
 use mathlib.Core.Logic.{◌↔◌, ⊎_elim}
@@ -26,8 +27,6 @@ use Rattle.questions.specs.Reasons.{Lined, FirstNo, Refuses}
 use Rattle.questions.specs.Outcomes.{refused, written, answer_of}
 use Rattle.certificate.specs.declared.Refusal.{Refusal}
 use Rattle.certificate.specs.declared.Refusal.TheVariants.{Room}
-use Rattle.certificate.specs.declared.Verdict.{Verdict}
-use Rattle.certificate.specs.declared.Verdict.TheVariants.{Refused, Accepted}
 use Rattle.certificate.specs.Keys.{sheet_fields, certificate_fields}
 use Rattle.certificate.specs.Refusals.{refusal_answer}
 use Rattle.certificate.specs.Questions.{verdict, verdict_of}
@@ -37,7 +36,8 @@ use Rattle.certificate.specs.Outcome.{outcome_of, outcome}
 use Rattle.certificate.specs.Promises.{Question1, NumbersUnmet, lines_of_writing}
 use Rattle.certificate.proofs.Theorems.{so_is_allowed, accepted_is_met}
 use Rattle.certificate.proofs.Shown.{figures_back, certificate_text_lem}
-use Rattle.certificate.proofs.OutcomeSteps.{Judged-refusal, judged_figures, refused_by_verdict, room_asked, accepted-length}
+use Rattle.certificate.proofs.OutcomeSteps.{refused_by_verdict, room_asked, accepted-length}
+use Rattle.certificate.proofs.Steps.{refused_sheet, accepted_sheet}
 use Rattle.questions.proofs.Laws.{fits}
 use Rattle.certificate.proofs.Written.{claims_are, shows, FirstBad-line, sheet_written, sheet_refused}
 use Rattle.certificate.proofs.Rooms.{room_for_text}
@@ -49,20 +49,20 @@ figures_read_lem q s =
     ap figures_read ((reads_values certificate_fields (certificate_of q) (certificate_values q)).1 (certificate_text_lem q s)) ∙ figures_back q (own_figures q)
 
 -- By the verdict that the code has.
-module _ (q : Sheet) {v : Verdict} (told : v ≡ verdict_of (verdict q)) (room : ℕ) where
-  pub refused_as_judged : {r : Refusal} → v ≡ Refused r → outcome_of q room ≡ refused r
-  refused_as_judged e = refused_by_verdict q room (Judged-refusal (verdict q) told e)
+module _ (q : Sheet) (room : ℕ) where
+  pub refused_as_judged : {r : Refusal} → verdict_of (verdict q) ≡ Err r → outcome_of q room ≡ refused r
+  refused_as_judged e = refused_by_verdict q room (refused_sheet q e)
 
-  module _ {f : Figures} (e : v ≡ Accepted f) where
+  module _ {f : Figures} (e : verdict_of (verdict q) ≡ Ok f) where
     pub written_as_judged : longest certificate_fields ≤ room → outcome_of q room ≡ written (certificate_of q)
     unfolding certificate_of certificate_values
     written_as_judged enough =
-        let h = (judged_figures q told e).0 in
+        let h = (accepted_sheet q e).0 in
         room_asked q room h ∙ fits Room room _ (omega (arith, enough, accepted-length q h))
 
     shown : f ≡ figures_of (figures_in (certificate_of q))
     shown =
-        let h = judged_figures q told e in
+        let h = accepted_sheet q e in
         h.1 ∙ ap figures_of (sym (figures_read_lem q ((accepted_is_met q (own_figures q)).0 h.0).0))
 
     pub shown_as_judged : (f.area ≡ (figures_in (certificate_of q)).area) × (f.axial ≡ (figures_in (certificate_of q)).axial)

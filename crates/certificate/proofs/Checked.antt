@@ -1,4 +1,5 @@
 -- When a certificate passes a check, and when it is refused.
+use Rattle.std.specs.Prelude.{Result, Ok}
 use Prim.Native.Nat.{ℕ}
 use mathlib.Core.List.{List, [], ◌∷◌, ◌++◌}
 use mathlib.Core.Logic.{◌⊎◌, inl, inr, ⊎_elim, ◌↔◌}
@@ -17,7 +18,6 @@ use Rattle.questions.specs.declared.Answer.{Answer}
 use Rattle.certificate.specs.declared.Refusal.{Refusal}
 use Rattle.questions.specs.Answers.{answer}
 use Rattle.certificate.specs.Refusals.{refusal_answer}
-use Rattle.questions.specs.Asking.{Finding, met}
 use Rattle.questions.specs.Reasons.{AllSo, Reason, FoundAs, Refuses}
 use Rattle.certificate.specs.Reasons.{lines_of_questions}
 use Rattle.certificate.specs.Certificates.{sheet_values, figure_values, certificate_values, certificate_of, sheet_shown}
@@ -25,7 +25,7 @@ use Rattle.certificate.specs.Outcome.{checking, outcome_of, checked}
 use Rattle.questions.specs.Outcomes.{written, written_if_met, answer_of}
 use Rattle.certificate.specs.Outcome.{check_outcome}
 use Rattle.certificate.specs.Promises.{lines13, lines_of_checking, Misspelt, Unlike, Issued}
-use Rattle.questions.proofs.Laws.{met_when_so, found_with_reason, found_answered, met_not_refused}
+use Rattle.questions.proofs.Laws.{met_when_so, found_with_reason, found_answered}
 use Rattle.certificate.proofs.Ties.{checking_told, figures_agree}
 use Rattle.certificate.proofs.Theorems.{so_of_both, so_is_allowed}
 use Rattle.certificate.proofs.Shown.{sheet_back, behind_sheet, split_at_sheet, sheet_spelt, certificate_text_lem}
@@ -48,13 +48,13 @@ module _ (c : List ℕ) where
       let e = found_answered refusal_answer (checked c) c a in
       let r = found_with_reason refusal_answer 0 2 (checking vs q) (lines_of_checking vs q) (checking_told vs q n) a in
       let same = right_certificate c vs g in (
-        λ h. r.0 (subst (λ (f : Finding Refusal). FoundAs refusal_answer f a) same (e.0 h).0),
-        λ h. e.1 (subst (λ (f : Finding Refusal). FoundAs refusal_answer f a) (sym same) (r.1 h), omega (arith, h.numbered)),
+        λ h. r.0 (subst (λ (f : Result Unit Refusal). FoundAs refusal_answer f a) same (e.0 h).0),
+        λ h. e.1 (subst (λ (f : Result Unit Refusal). FoundAs refusal_answer f a) (sym same) (r.1 h), omega (arith, h.numbered)),
       )
 
   bad_check : (l : ℕ) → read_lines certificate_fields c ≡ bad_line l → answer_of refusal_answer (check_outcome c) ≡ answer 1 l 0
-  unfolding check_outcome written_if_met answer_of
-  bad_check l g = ap (λ (f : Finding Refusal). answer_of refusal_answer (written_if_met f c)) (bad_certificate c l g)
+  unfolding check_outcome written_if_met
+  bad_check l g = ap (λ (f : Result Unit Refusal). answer_of refusal_answer (written_if_met f c)) (bad_certificate c l g)
 
   -- it is refused, with its number, line and length, exactly where a line is bad, or there is a reason in its values
   pub check_refused : (a : Answer) → Refuses (answer_of refusal_answer (check_outcome c)) a ↔ (Misspelt certificate_fields c a ⊎ Unlike c a)
@@ -70,7 +70,7 @@ module _ (c : List ℕ) where
 
   -- what passes meets the questions up to the eleventh, and its lines behind the sheet's are the figures'
   passed_claims : (vs : List ℤ) → read_lines certificate_fields c ≡ values vs
-      → (checked c ≡ met) ↔ (AllSo (lines_of_questions (sheet_shown vs)) × (drop sheet_lines vs ≡ figure_values (own_figures (sheet_shown vs))))
+      → (checked c ≡ Ok tt) ↔ (AllSo (lines_of_questions (sheet_shown vs)) × (drop sheet_lines vs ≡ figure_values (own_figures (sheet_shown vs))))
   unfolding lines_of_checking
   passed_claims vs g =
       let q = sheet_shown vs in
@@ -84,7 +84,7 @@ module _ (c : List ℕ) where
       )
 
   -- so it is the certificate of the sheet that it shows
-  passed_is : (vs : List ℤ) → read_lines certificate_fields c ≡ values vs → checked c ≡ met → AllSo (lines_of_questions (sheet_shown vs)) × (c ≡ certificate_of (sheet_shown vs))
+  passed_is : (vs : List ℤ) → read_lines certificate_fields c ≡ values vs → checked c ≡ Ok tt → AllSo (lines_of_questions (sheet_shown vs)) × (c ≡ certificate_of (sheet_shown vs))
   unfolding certificate_of certificate_values
   passed_is vs g e =
       let q = sheet_shown vs in
@@ -94,7 +94,7 @@ module _ (c : List ℕ) where
       (p.0, t.text ∙ ap (lines_text certificate_fields) parts)
 
   -- and the certificate of a sheet that meets the questions passes
-  passes_for : (q : Sheet) → AllSo (lines_of_questions q) → c ≡ certificate_of q → checked c ≡ met
+  passes_for : (q : Sheet) → AllSo (lines_of_questions q) → c ≡ certificate_of q → checked c ≡ Ok tt
   unfolding certificate_values
   passes_for q h e =
       let p = figure_values (own_figures q) in
@@ -111,7 +111,7 @@ issued_for q h =
     (numbers_written q room (certificate_of q)).1 ((claims_are q room).1 (h, omega arith), refl)
 
 -- a certificate passes exactly where some sheet, given room, is written as it
-pub passes_when_issued : (c : List ℕ) → (checked c ≡ met) ↔ Issued c
+pub passes_when_issued : (c : List ℕ) → (checked c ≡ Ok tt) ↔ Issued c
 passes_when_issued c = (
   λ e.
       by_reading certificate_fields c
@@ -124,7 +124,7 @@ passes_when_issued c = (
         room = length (certificate_of q);
         writes = sym (numbers_as_text q (length (certificate_of q)) (sheet_spelt q sound.q2)) ∙ issued_for q p.0 ∙ ap written (sym p.1);
       })
-      (λ l g. absurd (met_not_refused (sym (bad_certificate c l g) ∙ e))),
+      (λ l g. let w = sym (bad_certificate c l g) ∙ e in cc),
   λ i.
       let w = (sheet_written i.sheet i.room c).0 i.writes in
       passes_for c w.sheet ((claims_are w.sheet i.room).0 w.questions).0 w.text,

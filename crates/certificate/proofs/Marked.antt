@@ -18,15 +18,13 @@ use Rattle.certificate.specs.Keys.{sheet_fields, figure_fields, certificate_fiel
 use Rattle.lines.specs.Decimal.{decimal, integer_text}
 use Rattle.lines.specs.Texts.{letter_of, value_text, line_text, lines_text, longest_line, longest}
 use Rattle.lines.specs.Reading.{ended, read_digits, read_number, read_signed, read_letter, read_value, begins, read_line, prepend, read_end, and_then, read_from}
-use Rattle.certificate.specs.Questions.{question2, question3, question4, question5, question6, question7, question8, question9}
 use Rattle.section.specs.Sheets.{sheet_of, values_of, fineness, in_ranges}
 use Rattle.questions.specs.Claims.{pairwise}
 use Rattle.questions.specs.Asking.{asked_from, first_of, first_in}
-use Rattle.certificate.specs.Questions.{question10, question11, on_numbers, questions}
+use Rattle.certificate.specs.Questions.{question2, question11, on_numbers, questions}
 use Rattle.certificate.specs.Certificates.{sheet_values, figure_values, certificate_values, certificate_of, sheet_shown, figures_shown, read_sheet, sheet_in}
 use Rattle.questions.specs.Outcomes.{fitting, written_if_met}
 use Rattle.certificate.specs.Outcome.{question12, writing, outcome_of, outcome_read, outcome}
-use Rattle.questions.specs.Outcomes.{answer_of}
 use Rattle.certificate.specs.MarkedCases.{Each, sheet_a, sheet_b, sheet11, sheet12, sheet13, figures_read, figures_in, figures_b, marked}
 
 between : {least x most : ℤ} → leb_ℤ least x ≡ true → leb_ℤ x most ≡ true → (least ≼ℤ x) × (x ≼ℤ most)
@@ -48,9 +46,9 @@ unfolding
     ended read_digits read_number read_signed read_letter read_value begins read_line prepend read_end and_then read_from
     -- of this crate
     sheet_fields figure_fields certificate_fields read_sheet sheet_in
-    question2 question3 question4 question5 question6 question7 question8 question9 question10 question11
+    question2 question11
     on_numbers questions asked_from first_of first_in sheet_values figure_values certificate_values certificate_of sheet_shown figures_shown
-    fitting question12 writing written_if_met outcome_of outcome_read outcome answer_of
+    fitting question12 writing written_if_met outcome_of outcome_read outcome
     sheet_a sheet_b sheet11 sheet12 sheet13 figures_read figures_in figures_b marked
 marked_cases =
     (refl, (refl, (refl, (refl, (refl, (refl, ((refl, refl), (refl, (refl, (refl, ((refl, (refl, (between refl refl, (between refl refl, between refl refl)))), (refl, (refl, (refl, tt))))))))))))))

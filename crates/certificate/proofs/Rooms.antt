@@ -1,4 +1,5 @@
 -- How much room is enough for a certificate, and how many bytes of the input decide.
+use Rattle.std.specs.Prelude.{Result, Ok, Err}
 use Prim.Native.Nat.{ℕ, ◌≤◌, ◌<◌}
 use mathlib.Core.List.{List}
 use mathlib.Core.Logic.{⊎_elim}
@@ -14,7 +15,6 @@ use Rattle.certificate.specs.Keys.{sheet_fields, certificate_fields}
 use Rattle.questions.specs.declared.Answer.{Answer}
 use Rattle.certificate.specs.declared.Refusal.{Refusal}
 use Rattle.certificate.specs.Refusals.{refusal_answer}
-use Rattle.questions.specs.Asking.{Finding, refusal, met}
 use Rattle.certificate.specs.Reasons.{lines_on_numbers, lines_of_questions}
 use Rattle.certificate.specs.Certificates.{read_sheet, sheet_in}
 use Rattle.certificate.specs.Outcome.{outcome_of, outcome_read, outcome, checked_read, checked}
@@ -63,13 +63,13 @@ pub cut_sheet : (s : List ℕ) (m room : ℕ) → longest sheet_fields < m → o
 unfolding outcome sheet_in
 cut_sheet s m room h = ap (λ (r : Reading). outcome_read (read_sheet r) room) (cut_behind sheet_fields m s h)
 
-same_answer : (c : List ℕ) (m : ℕ) (f : Finding Refusal) → longest certificate_fields < m → checked c ≡ f
+same_answer : (c : List ℕ) (m : ℕ) (f : Result Unit Refusal) → longest certificate_fields < m → checked c ≡ f
     → answer_of refusal_answer (written_if_met f (take m c)) ≡ answer_of refusal_answer (written_if_met f c)
-unfolding written_if_met answer_of
-same_answer c m (refusal r) h e = refl
-same_answer c m met h e =
+unfolding written_if_met
+same_answer c m (Err r) h e = refl
+same_answer c m (Ok tt) h e =
     let i = (passes_when_issued c).0 e in
-    ap (λ (l : List ℕ). answer_of refusal_answer (written_if_met met l)) (take_all m c (omega (arith, h, sheet_length i.sheet i.room c i.writes)))
+    ap (λ (l : List ℕ). answer_of refusal_answer (written_if_met (Ok tt) l)) (take_all m c (omega (arith, h, sheet_length i.sheet i.room c i.writes)))
 
 pub cut_certificate : (c : List ℕ) (m : ℕ) → longest certificate_fields < m → answer_of refusal_answer (check_outcome (take m c)) ≡ answer_of refusal_answer (check_outcome c)
 unfolding check_outcome checked

@@ -6,30 +6,15 @@ use mathlib.Core.Path.{◌≡◌, refl, sym, ap, ◌∙◌, subst}
 use native.Mathlib.Omega.{arith}
 use lib.IntN.{ℤ, pos, nat_abs}
 use lib.ListN.{length, get_or, take, drop, take-append-drop, length-map}
-use Rattle.pair.specs.Forms.{integer, plain}
-use Rattle.pair.specs.declared.signed.Integer.{Integer}
-use Rattle.pair.proofs.Laws.{integer-size}
 use Rattle.section.specs.declared.Sheet.{Sheet}
 use Rattle.section.specs.Sheets.{sheet_lines, sheet_of, values_of}
 use Rattle.section.specs.Sound.{Question2, Sound}
 use Rattle.section.specs.Figures.{Printed, own_figures}
 use Rattle.section.proofs.Laws.{FiguresBelow, figures_have_ten_digits, same_values, values_of_sheet}
 use Rattle.lines.specs.Texts.{SpeltIn, longest, TextOf}
-use Rattle.lines.specs.Forms.{integers}
-use Rattle.lines.proofs.Laws.{letter_spelt, number_spelt, signed_spelt, spelt_none, Spelt-more, spelt_join, spelt_count, spelt_parts, numbers_above, text_at_most, integers-plain}
+use Rattle.lines.proofs.Laws.{letter_spelt, number_spelt, signed_spelt, spelt_none, Spelt-more, spelt_join, spelt_count, spelt_parts, numbers_above, text_at_most}
 use Rattle.certificate.specs.Keys.{sheet_fields, figure_fields, certificate_fields}
 use Rattle.certificate.specs.Certificates.{sheet_values, figure_values, certificate_values, certificate_of, sheet_shown, figures_shown}
-
--- what the code holds of a line
-pub integer_at : (vs : List Integer) (i : ℕ) (d : Integer) → i < length vs → get_or (integers vs) i (pos 0) ≡ integer (get_or vs i d)
-integer_at [] i d h = absurd (omega arith)
-integer_at (v ∷ vs) zero d h = refl
-integer_at (v ∷ vs) (suc i) d h = integer_at vs i d (omega arith)
-
-pub size_at : (vs : List Integer) (i : ℕ) (d : Integer) → i < length vs → get_or (map nat_abs (integers vs)) i 0 ≡ (get_or vs i d).size
-size_at [] i d h = absurd (omega arith)
-size_at (v ∷ vs) zero d h = integer-size v
-size_at (v ∷ vs) (suc i) d h = size_at vs i d (omega arith)
 
 -- the first lines alone show the same sheet
 front_at : (vs : List ℤ) (k i : ℕ) → i < k → get_or (map nat_abs (take k vs)) i 0 ≡ get_or (map nat_abs vs) i 0
@@ -42,14 +27,6 @@ front_at (v ∷ vs) (suc k) (suc i) h = front_at vs k i (omega arith)
 pub front_shown : (vs : List ℤ) → sheet_shown (take sheet_lines vs) ≡ sheet_shown vs
 unfolding sheet_shown
 front_shown vs = same_values (map nat_abs (take sheet_lines vs)) (map nat_abs vs) (front_at vs sheet_lines)
-
-pub integers_of : (vs : List ℤ) {xs : List Integer} → xs ≡ map plain vs → integers xs ≡ vs
-integers_of vs e = ap integers e ∙ integers-plain vs
-
-pub integers_front : (k : ℕ) (vs : List Integer) → integers (take k vs) ≡ take k (integers vs)
-integers_front zero vs = refl
-integers_front (suc k) [] = refl
-integers_front (suc k) (v ∷ vs) = ap (λ (l : List ℤ). integer v ∷ l) (integers_front k vs)
 
 -- the lines of a sheet, whatever comes behind, show that sheet
 module _ (q : Sheet) where

@@ -1,5 +1,5 @@
 -- What is proved of the questions on a sheet's numbers, in one place.
-use Prim.Native.Nat.{ℕ}
+use Rattle.std.specs.Prelude.{Result, Ok, Err}
 use mathlib.Core.Path.{◌≡◌, refl}
 use mathlib.Core.Logic.{◌↔◌, inl, ⊎_elim}
 use mathlib.Core.List.{List, [], ◌∷◌, ◌++◌}
@@ -9,8 +9,8 @@ use Rattle.section.specs.Sheets.{fineness}
 use Rattle.section.specs.Sound.{Sound}
 use Rattle.section.specs.Figures.{Printed, own_figures, Question11}
 use Rattle.certificate.specs.declared.Refusal.{Refusal}
-use Rattle.questions.specs.Asking.{Finding, refusal, met, first_in}
-use Rattle.certificate.specs.Questions.{on_numbers, questions, first_refusal, rejected, accepted, judged, verdict}
+use Rattle.questions.specs.Asking.{first_in}
+use Rattle.certificate.specs.Questions.{on_numbers, questions, first_refusal, judged, verdict}
 use Rattle.questions.specs.declared.Answer.{Answer}
 use Rattle.questions.specs.Answers.{answer}
 use Rattle.certificate.specs.Refusals.{refusal_answer}
@@ -58,7 +58,7 @@ so_is_allowed q =
     (λ h. let b = both.0 h in (sound.0 b.0, record { allowed = b.1.0.0 }), λ h. both.1 (sound.1 h.0, ((h.1.allowed, tt), tt)))
 
 -- no question up to the tenth refuses a sheet exactly where it meets them
-pub met_is_sound : (q : Sheet) → (first_refusal q ≡ met) ↔ Sound q
+pub met_is_sound : (q : Sheet) → (first_refusal q ≡ Ok tt) ↔ Sound q
 unfolding first_refusal
 met_is_sound q =
     let met = met_when_so refusal_answer 0 2 (on_numbers q) (lines_on_numbers q) (on_numbers_told q 0) in
@@ -70,18 +70,16 @@ pub refused_with_reason : (q : Sheet) (a : Answer) → FoundAs refusal_answer (f
 unfolding first_refusal
 refused_with_reason q a = found_with_reason refusal_answer 0 2 (on_numbers q) (lines_on_numbers q) (on_numbers_told q 0) a
 
-pub judged_refused : (f : Finding Refusal) (p : Printed) (r : Refusal) → (judged f p ≡ rejected r) ↔ (f ≡ refusal r)
-unfolding judged
-judged_refused met p r = (λ e. let z : ◌≡◌ {A = ℕ} 0 1 = cc in absurd (omega arith), λ e. let z : ◌≡◌ {A = ℕ} 0 1 = cc in absurd (omega arith))
-judged_refused (refusal r₀) p r = (λ e. cc, λ e. cc)
+pub judged_refused : (f : Result Unit Refusal) (p : Printed) (r : Refusal) → (judged f p ≡ Err r) ↔ (f ≡ Err r)
+judged_refused (Ok tt) p r = (λ e. cc, λ e. cc)
+judged_refused (Err r₀) p r = (λ e. cc, λ e. cc)
 
-pub judged-accepted : (f : Finding Refusal) (p p' : Printed) → (judged f p ≡ accepted p') ↔ ((f ≡ met) × (p' ≡ p))
-unfolding judged
-judged-accepted met p p' = (λ e. (refl, cc), λ h. cc h.1)
-judged-accepted (refusal r) p p' = (λ e. let z : ◌≡◌ {A = ℕ} 0 1 = cc in absurd (omega arith), λ h. let e : refusal r ≡ met = h.0 in let z : ◌≡◌ {A = ℕ} 0 1 = cc in absurd (omega arith))
+pub judged-accepted : (f : Result Unit Refusal) (p p' : Printed) → (judged f p ≡ Ok p') ↔ ((f ≡ Ok tt) × (p' ≡ p))
+judged-accepted (Ok tt) p p' = (λ e. (refl, cc), λ h. cc h.1)
+judged-accepted (Err r) p p' = (λ e. cc, λ h. cc h.0)
 
 -- a sheet is accepted exactly where it meets questions 2 to 11, and then with its figures
-pub accepted_is_met : (q : Sheet) (p : Printed) → (verdict q ≡ accepted p) ↔ (Sound q × Question11 (fineness q) q × (p ≡ own_figures q))
+pub accepted_is_met : (q : Sheet) (p : Printed) → (verdict q ≡ Ok p) ↔ (Sound q × Question11 (fineness q) q × (p ≡ own_figures q))
 unfolding verdict
 accepted_is_met q p =
     let j = judged-accepted (first_in (questions q)) (own_figures q) p in

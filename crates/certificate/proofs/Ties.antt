@@ -16,7 +16,7 @@ use Rattle.questions.specs.Asking.{Asked}
 use Rattle.certificate.specs.declared.Refusal.{Refusal}
 use Rattle.certificate.specs.declared.Refusal.TheVariants.{Range, Figure}
 use Rattle.certificate.specs.Refusals.{refusal_answer}
-use Rattle.certificate.specs.Questions.{question2, question3, question4, question5, question6, question7, question8, question9, question10, question11, on_numbers, questions}
+use Rattle.certificate.specs.Questions.{question2, question11, on_numbers, questions}
 use Rattle.questions.specs.Reasons.{Lined, lined_from, So}
 use Rattle.certificate.specs.Reasons.{lines_on_numbers, lines11, lines_of_questions}
 use Rattle.certificate.specs.Certificates.{figure_values, certificate_of, agreeing}
@@ -55,7 +55,7 @@ module _ (q : Sheet) where
   -- what each refusal tells
   module _ (needed : ℕ) where
     told_before : (qs : List (List (Asked Refusal))) (ls : List (List Lined)) → ToldFrom refusal_answer needed 11 qs ls → ToldFrom refusal_answer needed 2 (on_numbers q ++ qs) (lines_on_numbers q ++ ls)
-    unfolding on_numbers lines_on_numbers question2 question3 question4 question5 question6 question7 question8 question9 question10
+    unfolding on_numbers lines_on_numbers question2
     told_before qs ls t = (
       Told-lines refusal_answer needed 2 Range (λ l. refl) 1 (in_ranges q),
       (

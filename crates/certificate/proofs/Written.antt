@@ -21,7 +21,7 @@ use Rattle.certificate.specs.Certificates.{sheet_values, certificate_of, sheet_s
 use Rattle.certificate.specs.Outcome.{writing, outcome_of, outcome}
 use Rattle.questions.specs.Outcomes.{written, answer_of}
 use Rattle.certificate.specs.Promises.{Question1, lines12, lines_of_writing, Written, Misspelt, NumbersUnmet, SheetUnmet}
-use Rattle.questions.proofs.Laws.{met_when_so, found_with_reason, found_answered, if_met-written, written_not_refused}
+use Rattle.questions.proofs.Laws.{met_when_so, found_with_reason, found_answered, if_met-written}
 use Rattle.certificate.proofs.Ties.{writing_told}
 use Rattle.certificate.proofs.Theorems.{so_of_both}
 use Rattle.certificate.proofs.Shown.{sheet_alone, values_back}
@@ -82,12 +82,11 @@ module _ (s : List ℕ) where
           (λ vs g.
           let h = (numbers_written (sheet_shown vs) room t).0 (sym (right_sheet s room vs g) ∙ e) in
           record { sheet = sheet_shown vs; question1 = shows vs g; questions = h.0; text = h.1 })
-          (λ l g. absurd (written_not_refused (sym (bad_sheet s room l g) ∙ e))),
+          (λ l g. let w = sym (bad_sheet s room l g) ∙ e in cc),
       λ h. shown h.sheet room h.question1 ∙ (numbers_written h.sheet room t).1 (h.questions, h.text),
     )
 
     bad_answer : (l : ℕ) → read_lines sheet_fields s ≡ bad_line l → answer_of refusal_answer (outcome s room) ≡ answer 1 l 0
-    unfolding answer_of
     bad_answer l g = ap (answer_of refusal_answer) (bad_sheet s room l g)
 
     -- and refused, with its number, line and length, exactly where a line is bad, or there is a reason in its numbers

@@ -1,13 +1,13 @@
 -- A sheet, its figures, and the lines that show them. (docs/WORKING.md, 14.)
-use Rattle.std.specs.Prelude.{ℕ, ◌-◌, List, [], ◌∷◌, ◌++◌, map, ℤ, pos, nat_abs, get_or, drop}
+use Rattle.std.specs.Prelude.{ℕ, ◌-◌, List, [], ◌∷◌, ◌++◌, map, ℤ, pos, nat_abs, get_or, drop, Result, Ok, Err}
 use Rattle.section.specs.declared.Sheet.{Sheet}
 use Rattle.questions.specs.Claims.{Claim, ◌is◌, pairwise}
 use Rattle.section.specs.Sheets.{sheet_lines, sheet_of, values_of}
 use Rattle.section.specs.Figures.{Printed, own_figures}
 use Rattle.lines.specs.Texts.{lines_text}
 use Rattle.lines.specs.Reading.{Reading, values, bad_line, read_lines}
-use Rattle.certificate.specs.declared.ReadSheet.{ReadSheet}
-use Rattle.certificate.specs.declared.ReadSheet.TheVariants.{Shown, BadLine}
+use Rattle.certificate.specs.declared.Refusal.{Refusal}
+use Rattle.certificate.specs.declared.Refusal.TheVariants.{Spelling}
 use Rattle.certificate.specs.Keys.{sheet_fields, certificate_fields}
 
 -- the values of a sheet's lines, and of those behind them
@@ -29,12 +29,20 @@ unfoldable pub sheet_shown : List ℤ → Sheet
 sheet_shown vs = sheet_of (map nat_abs vs)
 
 -- the sheet that bytes are, or their first bad line
-unfoldable pub read_sheet : Reading → ReadSheet
-read_sheet (values vs) = Shown (sheet_shown vs)
-read_sheet (bad_line l) = BadLine l
+unfoldable pub read_sheet : Reading → Result Sheet Refusal
+read_sheet (values vs) = Ok (sheet_shown vs)
+read_sheet (bad_line l) = Err (Spelling l)
 
-unfoldable pub sheet_in : List ℕ → ReadSheet
+unfoldable pub sheet_in : List ℕ → Result Sheet Refusal
 sheet_in s = read_sheet (read_lines sheet_fields s)
+
+-- the values of a certificate's lines, or the first bad line
+unfoldable pub read_certificate : Reading → Result (List ℤ) Refusal
+read_certificate (values vs) = Ok vs
+read_certificate (bad_line l) = Err (Spelling l)
+
+unfoldable pub certificate_in : List ℕ → Result (List ℤ) Refusal
+certificate_in c = read_certificate (read_lines certificate_fields c)
 
 -- the figures that the lines behind the sheet's show
 abbrev pub behind : List ℤ → ℕ → ℤ

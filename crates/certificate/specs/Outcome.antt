@@ -1,14 +1,12 @@
 -- What writing and checking do, for any bytes, any numbers of a sheet and any room. (docs/WORKING.md, 15.)
-use Rattle.std.specs.Prelude.{ℕ, ◌+◌, List, [], ◌∷◌, ◌++◌, ℤ}
+use Rattle.std.specs.Prelude.{ℕ, ◌+◌, List, [], ◌∷◌, ◌++◌, ℤ, Result, Ok, Err}
 use Rattle.section.specs.declared.Sheet.{Sheet}
-use Rattle.questions.specs.Asking.{Asked, asked_from, Finding, refusal, first_in}
+use Rattle.questions.specs.Asking.{Asked, asked_from, first_in}
 use Rattle.questions.specs.Outcomes.{Outcome, refused, written_if_met, fitting}
 use Rattle.section.specs.Sheets.{sheet_lines}
 use Rattle.lines.specs.Reading.{Reading, values, bad_line, read_lines}
 use Rattle.certificate.specs.declared.Refusal.{Refusal}
 use Rattle.certificate.specs.declared.Refusal.TheVariants.{Spelling, Room, Figure}
-use Rattle.certificate.specs.declared.ReadSheet.{ReadSheet}
-use Rattle.certificate.specs.declared.ReadSheet.TheVariants.{Shown, BadLine}
 use Rattle.certificate.specs.Keys.{certificate_fields}
 use Rattle.certificate.specs.Questions.{questions}
 use Rattle.certificate.specs.Certificates.{certificate_of, sheet_shown, sheet_in, agreeing}
@@ -33,20 +31,20 @@ unfoldable pub outcome_of : Sheet → ℕ → Outcome Refusal
 outcome_of q room = written_if_met (first_in (writing room q)) (certificate_of q)
 
 -- Are all lines there, spelt right, with nothing behind the last?
-unfoldable pub outcome_read : ReadSheet → ℕ → Outcome Refusal
-outcome_read (BadLine l) room = refused (Spelling l)
-outcome_read (Shown q) room = outcome_of q room
+unfoldable pub outcome_read : Result Sheet Refusal → ℕ → Outcome Refusal
+outcome_read (Err r) room = refused r
+outcome_read (Ok q) room = outcome_of q room
 
 -- a sheet's bytes, and a buffer's room
 unfoldable pub outcome : List ℕ → ℕ → Outcome Refusal
 outcome s room = outcome_read (sheet_in s) room
 
 -- what checking finds of a certificate's bytes
-unfoldable pub checked_read : Reading → Finding Refusal
-checked_read (bad_line l) = refusal (Spelling l)
+unfoldable pub checked_read : Reading → Result Unit Refusal
+checked_read (bad_line l) = Err (Spelling l)
 checked_read (values vs) = first_in (checking vs (sheet_shown vs))
 
-unfoldable pub checked : List ℕ → Finding Refusal
+unfoldable pub checked : List ℕ → Result Unit Refusal
 checked c = checked_read (read_lines certificate_fields c)
 
 -- and what is answered: of a certificate that passes, its own length

@@ -1,14 +1,13 @@
 -- What the questions ask, with the lines that they name, and what it says that a sheet meets them or is refused by one. (docs/WORKING.md, 15.)
-use Rattle.std.specs.Prelude.{List, [], ◌∷◌, ◌++◌, ◌≡◌}
+use Rattle.std.specs.Prelude.{List, [], ◌∷◌, ◌++◌, ◌≡◌, Result, Err}
 use Rattle.questions.specs.declared.Answer.{Answer}
 use Rattle.questions.specs.Claims.{◌and◌, ◌or◌}
 use Rattle.questions.specs.Reasons.{Lined, ◌at_line◌, lined_from}
 use Rattle.section.specs.declared.Sheet.{Sheet}
 use Rattle.section.specs.Sheets.{in_ranges, fineness, lip, core_within, width, lip_length, depth, radius_core, radius_flange, mid_line_lip, form_z, lips_apart}
-use Rattle.section.specs.Figures.{allowance}
+use Rattle.section.specs.Figures.{Printed, allowance}
 use Rattle.certificate.specs.declared.Refusal.{Refusal}
 use Rattle.certificate.specs.Refusals.{refusal_answer}
-use Rattle.certificate.specs.Questions.{Judged, rejected}
 
 -- The claims of the questions from the second to the tenth, each with the line that the paper names for it.
 unfoldable pub lines_on_numbers : Sheet → List (List Lined)
@@ -42,7 +41,7 @@ unfoldable pub lines_of_questions : Sheet → List (List Lined)
 lines_of_questions q = lines_on_numbers q ++ (lines11 q ∷ [])
 
 -- a sheet is judged by a refusal whose answer is a
-pub record JudgedAs (j : Judged) (a : Answer) : Type 0 where
+pub record JudgedAs (j : Result Printed Refusal) (a : Answer) : Type 0 where
   pub refusal : Refusal
-  pub judged : j ≡ rejected refusal
+  pub judged : j ≡ Err refusal
   pub tells : refusal_answer refusal ≡ a

@@ -3,14 +3,13 @@
 #![tactic(auto)]
 
 pub mod certificates;
-mod keys;
+pub mod keys;
 pub mod reading;
 pub mod refusals;
 pub mod verdicts;
 mod writing;
 
-use pair::signed::Integer;
-use section::{Figures, SHEET_LINES, Sheet};
+use section::SHEET_LINES;
 
 // A certificate is its sheet's lines and those of the figures.
 pub const FIGURE_LINES: usize = 6;
@@ -24,14 +23,16 @@ pub const LONGEST_SHEET: usize = 184;
 
 pub const LONGEST_CERTIFICATE: usize = 289;
 
-const ZERO: Integer = Integer {
-    below: false,
-    size: 0,
-};
+// Flange 1 or 2 of a sheet.
+#[derive(Clone, Copy, Debug, PartialEq, Eq)]
+pub enum Flange {
+    One,
+    Two,
+}
 
-// Why a sheet, or a certificate, is refused: a case for each question, with the line or the
-// length that varies.
-#[derive(Clone, Copy)]
+// Why a sheet, or a certificate, is refused: a case for each question, with the line, the flange or
+// the length that varies.
+#[derive(Clone, Copy, Debug, PartialEq, Eq)]
 pub enum Refusal {
     // 1: a line is missing or misspelt
     Spelling(u64),
@@ -40,17 +41,17 @@ pub enum Refusal {
     // 3: the core is thicker than the nominal thickness
     Thickness,
     // 4: a flange is wider than 60 times the thickness
-    FlangeWidth(u64),
+    FlangeWidth(Flange),
     // 5: the lip is longer than 50 times the thickness
     LipLength,
     // 6: the web is deeper than 500 times the thickness
     Depth,
     // 7: the lip is too short or too long for a flange
-    LipRatio(u64),
+    LipRatio(Flange),
     // 8: the radius is too large
     Radius,
     // 9: the lip is too long for a flange, on the mid-lines
-    MidLineRatio(u64),
+    MidLineRatio(Flange),
     // 10: the lips of a C meet
     Form,
     // 11: the area's upper end passes the allowance
@@ -59,25 +60,4 @@ pub enum Refusal {
     Room(u64),
     // 13: a figure differs from the working
     Figure(u64),
-}
-
-// What bytes are read as: a sheet, or their first bad line, counted from 1.
-#[derive(Clone, Copy)]
-pub enum ReadSheet {
-    Shown(Sheet),
-    BadLine(u64),
-}
-
-// What questions find.
-#[derive(Clone, Copy)]
-pub enum Found {
-    Unmet(Refusal),
-    Met,
-}
-
-// What a sheet gives before anything is written.
-#[derive(Clone, Copy)]
-pub enum Verdict {
-    Refused(Refusal),
-    Accepted(Figures),
 }

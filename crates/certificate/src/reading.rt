@@ -1,97 +1,49 @@
 // Reading a sheet, and the lines of a certificate: the first question. (docs/WORKING.md, 15.)
-ghost use Rattle.std.specs.Prelude.{◌≡◌, ◌≤◌, take};
-ghost use Rattle.lines.specs.Forms.{integers};
-ghost use Rattle.lines.specs.Reading.{bad_line, read_lines};
-ghost use Rattle.certificate.specs.Keys.{certificate_lines, certificate_fields};
-ghost use Rattle.certificate.specs.Certificates.{sheet_shown, sheet_in};
-ghost use Rattle.certificate.specs.Forms.{lines_of};
+ghost use Rattle.std.specs.Prelude.{◌≡◌, ◌≤◌, length, IfOk};
+ghost use Rattle.lines.specs.Texts.{Words};
+ghost use Rattle.section.specs.Sheets.{sheet_lines};
+ghost use Rattle.certificate.specs.declared.Refusal.TheVariants.{Spelling};
+ghost use Rattle.certificate.specs.Certificates.{sheet_shown, sheet_in, certificate_in};
 
-use crate::keys::KEYS;
-use crate::{CERTIFICATE_LINES, ReadSheet, ZERO};
+use crate::keys::keys;
+use crate::{CERTIFICATE_LINES, Refusal};
 use lines::reading;
-use lines::reading::Line;
-use pair::signed::Integer;
-use section::{SHEET_LINES, Sheet, sheets};
+use lines::reading::BadLine;
+use section::{SHEET_LINES, Sheet};
 
-// Whether all lines are right; if not, which is the first bad one, counted from 1.
-#[derive(Clone, Copy)]
-pub enum Spelling {
-    Right,
-    BadLine(usize),
-}
+impl From<BadLine> for Refusal {
+    ghost from_gives = { λ bad r. r ≡ Spelling bad.0 };
 
-// The values in their order where all lines are right; zeros stand behind them, and everywhere beside
-// a bad line.
-#[derive(Clone, Copy)]
-pub struct Lines {
-    pub spelling: Spelling,
-    pub values: [Integer; CERTIFICATE_LINES],
-}
-
-// The answer where `line` is the first bad line.
-fn bad_line(line: usize) -> Lines
-    ensures { result ≡ lines_of (bad_line line) }
-{
-    let spelling = Spelling::BadLine(line);
-    let values = [ZERO; CERTIFICATE_LINES];
-    Lines { spelling, values }
-}
-
-// Reads the first `count` lines of a certificate, behind which nothing may stand.
-pub fn read_lines(s: &[u8], count: usize) -> Lines
-    requires { count ≤ certificate_lines }
-    ensures { result ≡ lines_of (read_lines (take count certificate_fields) s.now) }
-{
-    let keys = KEYS;
-    let mut values = [ZERO; CERTIFICATE_LINES];
-    let mut at = 0;
-    let mut i = 0;
-    while i < count {
-        let key = keys[i];
-        let found = reading::line_at(s, at, key);
-        match found {
-            Line::Got(v, next) => {
-                values[i] = v;
-                at = next;
-            }
-            Line::Bad => {
-                return bad_line(i + 1);
-            }
-        }
-        i += 1;
+    fn from(bad: BadLine) -> Refusal {
+        Refusal::Spelling(bad.0 as u64)
     }
-    if at == s.len() {
-        return Lines {
-            spelling: Spelling::Right,
-            values,
-        };
-    }
-    bad_line(count + 1)
+}
+
+// The values of a certificate's lines, or that one is bad.
+pub fn read_certificate(s: &[u8]) -> Result<[i128; CERTIFICATE_LINES], Refusal>
+    ensures value { result ≡ certificate_in s.now }
+    ensures words { IfOk result Words }
+{
+    Ok(reading::table(s, keys())?)
 }
 
 // The sheet that a certificate's first lines, or a sheet's, show.
-pub fn sheet_shown(values: [Integer; CERTIFICATE_LINES]) -> Sheet
-    ensures { result ≡ sheet_shown (integers values) }
+pub fn sheet_shown(values: &[i128]) -> Sheet
+    requires all_lines { sheet_lines ≤ length values.now }
+    requires words { Words values.now }
+    ensures { result ≡ sheet_shown values.now }
 {
     let mut numbers = [0; SHEET_LINES];
-    let mut i = 0;
-    while i < SHEET_LINES {
-        let v = values[i];
-        numbers[i] = v.size;
-        i += 1;
+    for i in 0..SHEET_LINES {
+        numbers[i] = values[i].unsigned_abs() as u64;
     }
-    sheets::sheet_of(numbers)
+    Sheet::from(numbers)
 }
 
-// The sheet that some bytes are, or their first bad line.
-pub fn read_sheet(s: &[u8]) -> ReadSheet
+// The sheet that some bytes are, or that one of their lines is bad.
+pub fn read_sheet(s: &[u8]) -> Result<Sheet, Refusal>
     ensures { result ≡ sheet_in s.now }
 {
-    let lines = read_lines(s, SHEET_LINES);
-    let spelling = lines.spelling;
-    let values = lines.values;
-    match spelling {
-        Spelling::BadLine(line) => ReadSheet::BadLine(line as u64),
-        Spelling::Right => ReadSheet::Shown(sheet_shown(values)),
-    }
+    let values = reading::table::<SHEET_LINES>(s, &keys()[..SHEET_LINES])?;
+    Ok(sheet_shown(&values))
 }

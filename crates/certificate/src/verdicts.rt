@@ -1,21 +1,35 @@
 // The questions on a sheet's numbers, in the paper's order: the first "no" decides.
 // (docs/WORKING.md, 15.)
-ghost use Rattle.std.specs.Prelude.{◌≡◌, ◌≤◌};
+ghost use Rattle.std.specs.Prelude.{◌≡◌, ◌≤◌, ◌<◌, map, not, IfSome};
+ghost use Rattle.std.specs.List.{position_from, zip};
 ghost use Rattle.questions.specs.Claims.{test};
+ghost use Rattle.questions.specs.Asking.{first_of, first_in};
 ghost use Rattle.section.specs.Sound.{Question2, Sound};
+ghost use Rattle.section.specs.Sheets.{sheet_lines, ranges, lip};
 ghost use Rattle.section.specs.Figures.{own_figures};
-ghost use Rattle.questions.specs.Asking.{first_of, First};
-ghost use Rattle.certificate.specs.Questions.{question2, question11, found_of, from, first_refusal, judged, verdict, verdict_of, spanned};
-ghost use Rattle.section.specs.Sheets.{lip};
+ghost use Rattle.certificate.specs.Questions.{question2, on_lengths, on_lips, question11, spanned};
+ghost use Rattle.certificate.specs.Questions.{first_refusal, judged, verdict, verdict_of};
 
-use crate::{Found, Refusal, Verdict};
-use section::{SHEET_LINES, Sheet, sections, sheets};
+use crate::{Flange, Refusal};
+use questions::asking::ask;
+use section::{Figures, SHEET_LINES, Sheet, SoundSheet};
 
 // What a value may be: from the first number to the second, both included, or one of the two.
-#[derive(Clone, Copy)]
+#[derive(Clone, Copy, Debug, PartialEq, Eq)]
 enum Span {
     Upto(u64, u64),
     OneOf(u64, u64),
+}
+
+impl Span {
+    fn admits(self, v: u64) -> bool
+        ensures { result ≡ test (spanned self v) }
+    {
+        match self {
+            Span::Upto(least, most) => least <= v && v <= most,
+            Span::OneOf(a, b) => v == a || v == b,
+        }
+    }
 }
 
 // The ranges, in the order of the lines.
@@ -35,71 +49,40 @@ const RANGES: [Span; SHEET_LINES] = [
     Span::OneOf(1, 10),
 ];
 
-// The lines of the flanges.
-const FLANGE_1: u64 = 3;
-
-const FLANGE_2: u64 = 4;
-
-fn within(span: Span, v: u64) -> bool
-    ensures { result ≡ test (spanned span v) }
+// The place of the first value that its span does not admit, counted from 0.
+fn first_outside(spans: &[Span; SHEET_LINES], values: &[u64; SHEET_LINES]) -> Option<usize>
+    ensures value { result ≡ position_from (λ p. not (test (spanned p.0 p.1))) 0 (zip spans.now values.now) }
+    ensures within { IfSome result (λ i. i < sheet_lines) }
 {
-    match span {
-        Span::Upto(least, most) => least <= v && v <= most,
-        Span::OneOf(a, b) => v == a || v == b,
-    }
+    spans
+        .iter()
+        .zip(values)
+        .position(|(span, v)| !span.admits(*v))
 }
 
 // Question 2: the first line whose value is out of its range.
-fn range(q: Sheet) -> Found
-    ensures { result ≡ found_of (first_of (question2 q)) }
+fn in_range(spans: &[Span; SHEET_LINES], q: Sheet) -> Result<(), Refusal>
+    requires { map spanned spans.now ≡ ranges }
+    ensures { result ≡ first_of (question2 q) }
 {
-    let values = sheets::values_of(q);
-    let ranges = RANGES;
-    let mut i = 0;
-    while i < SHEET_LINES {
-        let span = ranges[i];
-        let v = values[i];
-        if !within(span, v) {
-            let line = i as u64 + 1;
-            return Found::Unmet(Refusal::Range(line));
-        }
-        i += 1;
+    match first_outside(spans, &<[u64; SHEET_LINES]>::from(q)) {
+        Some(i) => Err(Refusal::Range(i as u64 + 1)),
+        None => Ok(()),
     }
-    Found::Met
 }
 
-// Question 3, and those behind it: t <= tnom.
-fn from_third(q: Sheet) -> Found
+// Questions 3 to 6: t <= tnom; b <= 60t, flange 1 then 2; c <= 50t; h <= 500t.
+#[tactic(auto, unfolding(questions::specs::Asking::first_of, questions::specs::Asking::first_in))]
+fn lengths_suit(q: Sheet) -> Result<(), Refusal>
     requires { Question2 q }
-    ensures { First found_of (from 3 q) result }
+    ensures { result ≡ first_in (on_lengths q) }
 {
-    let tnom = q.tnom;
-    let t = q.t;
-    if tnom.0 < t.0 {
-        return Found::Unmet(Refusal::Thickness);
-    }
-    from_fourth(q)
-}
-
-// Questions 4 to 6, and those behind them: b <= 60t, flange 1 then 2; c <= 50t; h <= 500t.
-fn from_fourth(q: Sheet) -> Found
-    requires { Question2 q }
-    ensures { First found_of (from 4 q) result }
-{
-    let t = q.t;
-    if 60 * t.0 < q.b1 {
-        return Found::Unmet(Refusal::FlangeWidth(FLANGE_1));
-    }
-    if 60 * t.0 < q.b2 {
-        return Found::Unmet(Refusal::FlangeWidth(FLANGE_2));
-    }
-    if 50 * t.0 < q.c {
-        return Found::Unmet(Refusal::LipLength);
-    }
-    if 500 * t.0 < q.h {
-        return Found::Unmet(Refusal::Depth);
-    }
-    from_seventh(q)
+    let t = q.t.0;
+    ask(t <= q.tnom.0, Refusal::Thickness)?;
+    ask(q.b1 <= 60 * t, Refusal::FlangeWidth(Flange::One))?;
+    ask(q.b2 <= 60 * t, Refusal::FlangeWidth(Flange::Two))?;
+    ask(q.c <= 50 * t, Refusal::LipLength)?;
+    ask(q.h <= 500 * t, Refusal::Depth)
 }
 
 // Whether the lip suits a flange: b <= 5c and 5c <= 3b.
@@ -110,104 +93,51 @@ fn lip_suits(b: u64, c: u64) -> bool
     b <= 5 * c && 5 * c <= 3 * b
 }
 
-// Question 7, and those behind it: the lip beside flange 1, then 2.
-fn from_seventh(q: Sheet) -> Found
+// Questions 7 to 10: the lip beside flange 1, then 2; r <= 5t and 10r <= bp1 and 10r <= bp2; 5cp <= 3bp,
+// flange 1 then 2, both sides doubled, since cp may have half hundredths; form Z, or 2c <= h.
+#[tactic(auto, unfolding(questions::specs::Asking::first_of, questions::specs::Asking::first_in))]
+fn lips_suit(q: Sheet) -> Result<(), Refusal>
     requires { Question2 q }
-    ensures { First found_of (from 7 q) result }
+    ensures { result ≡ first_in (on_lips q) }
 {
-    if !lip_suits(q.b1, q.c) {
-        return Found::Unmet(Refusal::LipRatio(FLANGE_1));
-    }
-    if !lip_suits(q.b2, q.c) {
-        return Found::Unmet(Refusal::LipRatio(FLANGE_2));
-    }
-    from_eighth(q)
-}
-
-// Question 8, and those behind it: r <= 5t and 10r <= bp1 and 10r <= bp2.
-fn from_eighth(q: Sheet) -> Found
-    requires { Question2 q }
-    ensures { First found_of (from 8 q) result }
-{
-    let tnom = q.tnom;
-    let t = q.t;
+    let tnom = q.tnom.0;
+    let bp1 = q.b1 - tnom;
+    let bp2 = q.b2 - tnom;
     let r = 10 * q.r;
-    if 5 * t.0 < q.r {
-        return Found::Unmet(Refusal::Radius);
-    }
-    if q.b1 - tnom.0 < r {
-        return Found::Unmet(Refusal::Radius);
-    }
-    if q.b2 - tnom.0 < r {
-        return Found::Unmet(Refusal::Radius);
-    }
-    from_ninth(q)
-}
-
-// Question 9, and the one behind it: 5cp <= 3bp, flange 1 then 2, both sides doubled, since cp
-// may have half hundredths.
-fn from_ninth(q: Sheet) -> Found
-    requires { Question2 q }
-    ensures { First found_of (from 9 q) result }
-{
-    let tnom = q.tnom;
-    let lip = 5 * (2 * q.c - tnom.0);
-    if 6 * (q.b1 - tnom.0) < lip {
-        return Found::Unmet(Refusal::MidLineRatio(FLANGE_1));
-    }
-    if 6 * (q.b2 - tnom.0) < lip {
-        return Found::Unmet(Refusal::MidLineRatio(FLANGE_2));
-    }
-    tenth(q)
-}
-
-// Question 10: form Z, or 2c <= h.
-fn tenth(q: Sheet) -> Found
-    requires { Question2 q }
-    ensures { First found_of (from 10 q) result }
-{
-    if q.form == 1 {
-        return Found::Met;
-    }
-    if 2 * q.c <= q.h {
-        return Found::Met;
-    }
-    Found::Unmet(Refusal::Form)
+    let lip = 5 * (2 * q.c - tnom);
+    ask(lip_suits(q.b1, q.c), Refusal::LipRatio(Flange::One))?;
+    ask(lip_suits(q.b2, q.c), Refusal::LipRatio(Flange::Two))?;
+    ask(q.r <= 5 * q.t.0 && r <= bp1 && r <= bp2, Refusal::Radius)?;
+    ask(lip <= 6 * bp1, Refusal::MidLineRatio(Flange::One))?;
+    ask(lip <= 6 * bp2, Refusal::MidLineRatio(Flange::Two))?;
+    ask(q.form == 1 || 2 * q.c <= q.h, Refusal::Form)
 }
 
 // The first of questions 2 to 10 that a sheet's numbers do not meet.
-pub fn first_refusal(q: Sheet) -> Found
-    ensures { result ≡ found_of (first_refusal q) }
+#[tactic(auto, using(crate::proofs::Steps::part_by_part))]
+pub fn first_refusal(q: Sheet) -> Result<(), Refusal>
+    ensures { result ≡ first_refusal q }
 {
-    let found = range(q);
-    match found {
-        Found::Unmet(r) => Found::Unmet(r),
-        Found::Met => from_third(q),
-    }
+    in_range(&RANGES, q)?;
+    lengths_suit(q)?;
+    lips_suit(q)
 }
 
 // Question 11: whether the area's upper end is at most area + allow. If so, the figures.
-fn allowance(q: Sheet) -> Verdict
+fn allowance(q: Sheet) -> Result<Figures, Refusal>
     requires { Sound q }
     ensures { result ≡ verdict_of (judged (first_of (question11 q)) (own_figures q)) }
 {
-    let n = sheets::fineness_of(q);
-    let w = sections::work(n, q);
-    let figures = sections::figures_of(n, q, w);
-    if sections::within_allowance(n, q, w, figures.area) {
-        Verdict::Accepted(figures)
-    } else {
-        Verdict::Refused(Refusal::Allowance)
-    }
+    let worked = SoundSheet { sheet: q }.work(q.scale());
+    ask(worked.within_allowance(), Refusal::Allowance)?;
+    Ok(worked.figures())
 }
 
 // The first of questions 2 to 11 that a sheet's numbers do not meet, or their figures.
-pub fn verdict_of(q: Sheet) -> Verdict
+#[tactic(auto, using(crate::proofs::Steps::before_the_eleventh))]
+pub fn verdict_of(q: Sheet) -> Result<Figures, Refusal>
     ensures { result ≡ verdict_of (verdict q) }
 {
-    let found = first_refusal(q);
-    match found {
-        Found::Unmet(r) => Verdict::Refused(r),
-        Found::Met => allowance(q),
-    }
+    first_refusal(q)?;
+    allowance(q)
 }

@@ -3,13 +3,14 @@ use Prim.Native.Nat.{ℕ, suc, ◌+◌, ◌-◌, ◌≤◌, ◌<◌}
 use mathlib.Core.Bool.{cond}
 use mathlib.Core.List.{List, [], ◌∷◌, ◌++◌, append-nil}
 use mathlib.Core.Path.{◌≡◌, refl, ap, ◌∙◌}
-use native.Mathlib.Numerals.{add-one}
 use native.Mathlib.Omega.{arith}
 use borrow.Author.Tests.{eq-eqb, ne_eqb}
 use lib.Dec.{eqb}
-use lib.ListN.{length, get_or, drop, length-append, drop_of_length-le}
-use lib.Seq.{drop-cons}
-use Rattle.pair.proofs.Numbers.{by_test}
+use lib.ListN.{length, get_or, length-append}
+use Rattle.std.specs.Prelude.{◌==◌}
+use Rattle.std.specs.List.{count_by}
+use Rattle.std.proofs.lemmas.List.Sums.{sum_by-cons}
+use Rattle.lines.proofs.Tests.{by_test}
 use Rattle.lines.specs.Ascii.{newline}
 use Rattle.lines.specs.Splitting.{lengthened, split_lines, newlines, unended}
 use Rattle.lines.proofs.SplitLaws.{by_byte, split_here, split_onward, count_here, count_onward, split_count, split_some}
@@ -22,17 +23,14 @@ newlines-append (b ∷ s) t =
     (λ e. omega (arith, count_here b (s ++ t) e, count_here b s e, newlines-append s t))
     (λ n. omega (arith, count_onward b (s ++ t) n, count_onward b s n, newlines-append s t))
 
--- The newlines from place i on, by the byte there.
-module _ (s : List ℕ) (i : ℕ) (inside : i < length s) where
-  pub newlines_here : get_or s i 0 ≡ newline → newlines (drop i s) ≡ suc (newlines (drop (i + 1) s))
-  newlines_here e = rw (add-one, drop-cons s i 0) (count_here (get_or s i 0) (drop (suc i) s) e)
-
-  pub newlines_onward : (get_or s i 0 ≡ newline → ⊥) → newlines (drop i s) ≡ newlines (drop (i + 1) s)
-  newlines_onward n = rw (add-one, drop-cons s i 0) (count_onward (get_or s i 0) (drop (suc i) s) n)
-
-pub newlines_end : (s : List ℕ) (i : ℕ) → length s ≤ i → newlines (drop i s) ≡ 0
+-- newlines are counted as the library counts
+pub newlines_counted : (s : List ℕ) → count_by (λ b. b == newline) s ≡ newlines s
 unfolding newlines
-newlines_end s i h = ap newlines (drop_of_length-le s {i = i} h)
+newlines_counted [] = refl
+newlines_counted (b ∷ s) =
+    by_byte b
+    (λ e. rw (sum_by-cons (λ b. cond (b == newline) 1 0) b s, eq-eqb b newline e) (omega (arith, newlines_counted s)))
+    (λ n. rw (sum_by-cons (λ b. cond (b == newline) 1 0) b s, ne_eqb b newline n) (omega (arith, newlines_counted s)))
 
 pub unended_none : unended [] ≡ 0
 unfolding unended

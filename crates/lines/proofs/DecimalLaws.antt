@@ -1,21 +1,19 @@
 -- Numbers in decimal: by the last digit, their length, and how the code writes them.
-use Prim.Native.Nat.{ℕ, zero, suc, ◌+◌, ◌/◌, ◌%◌, ◌^◌, ◌≤◌, ◌<◌}
+use Prim.Native.Nat.{ℕ, zero, suc, ◌+◌, ◌-◌, ◌/◌, ◌%◌, ◌^◌, ◌≤◌, ◌<◌}
 use mathlib.Core.Bool.{Bool, true, false}
-use mathlib.Core.List.{List, [], ◌∷◌, ◌++◌, append_assoc}
+use mathlib.Core.List.{List, [], ◌∷◌, ◌++◌}
 use mathlib.Core.Path.{◌≡◌, refl, sym, ap, ◌∙◌}
 use native.Mathlib.Omega.{arith}
-use native.Mathlib.Numerals.{add-one}
 use borrow.Author.Tests.{lt-ltb, le-ltb, ltb-true, ltb-false}
 use lib.Dec.{ltb}
-use lib.IntN.{ℤ, pos, negsuc, neg_ℤ, nat_abs}
-use lib.ListN.{length, drop, set}
-use Rattle.pair.specs.Forms.{integer}
-use Rattle.pair.specs.declared.signed.Integer.{Integer}
-use Rattle.pair.proofs.Laws.{integer-size}
+use lib.IntN.{ℤ, pos, negsuc, nat_abs}
+use lib.ListN.{length, set}
+use Rattle.std.specs.Fmt.{decimal as std·decimal, signed_decimal}
+use Rattle.std.proofs.lemmas.Fmt.{decimal_by_steps_wide}
 use Rattle.lines.specs.Ascii.{digit0, minus}
-use Rattle.lines.specs.Decimal.{digits_in, decimal, negative, integer_text, fixed_text}
+use Rattle.lines.specs.Decimal.{digits_in, decimal, integer_text, fixed_text}
 use Rattle.questions.specs.Buffers.{over}
-use Rattle.lines.proofs.LentParts.{length_snoc, over_first, over_nothing}
+use Rattle.lines.proofs.LentParts.{length_snoc, over_nothing, over-set}
 
 -- a number below ten is one digit, however many steps are allowed
 in_small : (k n : ℕ) → n < 10 → digits_in k n ≡ (digit0 + n) ∷ []
@@ -97,44 +95,6 @@ length_four n h =
       ap (λ (m : ℕ). length (decimal m)) same,
     )
 
--- the length tells whether a digit stands before the last
-pub one_digit : (n : ℕ) → length (decimal n) ≤ 1 → n < 10
-one_digit n h = by_outcome (ltb n 10) refl
-  where
-    by_outcome : (b : Bool) → ltb n 10 ≡ b → n < 10
-    by_outcome true e = ltb-true n 10 e
-    by_outcome false e = absurd (omega (arith, more_digits 1 n (ltb-false n 10 e)))
-
-pub digits_before : (n : ℕ) → 1 < length (decimal n) → 10 ≤ n
-digits_before n h = by_outcome (ltb n 10) refl
-  where
-    by_outcome : (b : Bool) → ltb n 10 ≡ b → 10 ≤ n
-    by_outcome true e = absurd (omega (arith, length_small n (ltb-true n 10 e)))
-    by_outcome false e = ltb-false n 10 e
-
-pub put_small : (n : ℕ) (b : List ℕ) → n < 10 → 0 < length b → set b 0 (digit0 + n) ≡ over (decimal n) b
-put_small n b h g = rw (decimal_small n h) (over_first (digit0 + n) b g)
-
-store_drop : (b : List ℕ) (i x : ℕ) → i < length b → drop i (set b i x) ≡ x ∷ drop (suc i) b
-store_drop [] i x h = absurd (omega arith)
-store_drop (y ∷ b) zero x h = refl
-store_drop (y ∷ b) (suc i) x h = store_drop b i x (omega arith)
-
--- a byte stored before the text t is written is a byte behind it
-over_store : (t b : List ℕ) (x : ℕ) → length t < length b → over t (set b (length t) x) ≡ over (t ++ (x ∷ [])) b
-unfolding over
-over_store t b x h =
-    ap (λ (l : List ℕ). t ++ l) (store_drop b (length t) x h)
-    ∙ sym (append_assoc t (x ∷ []) _ ∙ ap (λ (k : ℕ). t ++ (x ∷ drop k b)) (length_snoc t x ∙ add-one (length t)))
-
--- the last digit stored, the digits before it are left to write
-pub put_last : (n i : ℕ) (b : List ℕ) → 10 ≤ n → length (decimal n) ≤ length b → i ≡ length (decimal (n / 10))
-    → over (decimal (n / 10)) (set b i (digit0 + n % 10)) ≡ over (decimal n) b
-put_last n i b h k ei =
-    ap (λ (j : ℕ). over (decimal (n / 10)) (set b j (digit0 + n % 10))) ei
-    ∙ over_store (decimal (n / 10)) b (digit0 + n % 10) (omega (arith, length_step n h))
-    ∙ ap (λ (l : List ℕ). over l b) (sym (decimal_step n h))
-
 -- fixed digits
 
 pub fixed_length : (k n : ℕ) → length (fixed_text k n) ≡ k
@@ -142,39 +102,39 @@ unfolding fixed_text
 fixed_length zero n = refl
 fixed_length (suc k) n = length_snoc (fixed_text k (n / 10)) (digit0 + n % 10) ∙ omega (arith, fixed_length k (n / 10))
 
--- the last digit stored at i, the digits before it are left to write
-pub put_fixed_last : (i k n : ℕ) (b : List ℕ) → k ≡ suc i → k ≤ length b → over (fixed_text i (n / 10)) (set b i (digit0 + n % 10)) ≡ over (fixed_text k n) b
+-- the last digit behind the digits before it
+pub fixed_next : (k n : ℕ) (b : List ℕ) → 0 < k → k ≤ length b → set (over (fixed_text (k - 1) (n / 10)) b) (k - 1) (digit0 + n % 10) ≡ over (fixed_text k n) b
 unfolding fixed_text
-put_fixed_last i k n b e h =
-    let size = fixed_length i (n / 10) in
-    ap (λ (j : ℕ). over (fixed_text i (n / 10)) (set b j (digit0 + n % 10))) (sym size)
-    ∙ over_store (fixed_text i (n / 10)) b (digit0 + n % 10) (omega (arith, size))
-    ∙ ap (λ (j : ℕ). over (fixed_text j n) b) (sym e)
+fixed_next zero n b p h = absurd (omega arith)
+fixed_next (suc k) n b p h =
+    let less : suc k - 1 ≡ k = omega arith in
+    let size = fixed_length k (n / 10) in
+    ap (λ (j : ℕ). set (over (fixed_text j (n / 10)) b) j (digit0 + n % 10)) less
+    ∙ ap (λ (j : ℕ). set (over (fixed_text k (n / 10)) b) j (digit0 + n % 10)) (sym size)
+    ∙ over-set (fixed_text k (n / 10)) b (digit0 + n % 10) (omega (arith, size))
 
-pub put_fixed_none : (k n : ℕ) (b : List ℕ) → k ≡ 0 → b ≡ over (fixed_text k n) b
+pub fixed_nothing : (k n : ℕ) (b : List ℕ) → k ≡ 0 → b ≡ over (fixed_text k n) b
 unfolding fixed_text
-put_fixed_none k n b e = over_nothing b ∙ ap (λ (j : ℕ). over (fixed_text j n) b) (sym e)
+fixed_nothing k n b e = over_nothing b ∙ ap (λ (j : ℕ). over (fixed_text j n) b) (sym e)
 
--- an integer is a minus, where it lies below zero, and its size
-
-minus_text : (v : ℤ) → negative v ≡ true → integer_text v ≡ (minus ∷ []) ++ decimal (nat_abs v)
+-- an integer whose size fits a word has at most twenty digits and a minus
+pub integer_most : (v : ℤ) → nat_abs v < 10 ^ 20 → length (integer_text v) ≤ 21
 unfolding integer_text
-minus_text (pos n) e = absurd (let z : ◌≡◌ {A = ℕ} 0 1 = cc in omega arith)
-minus_text (negsuc n) e = refl
+integer_most (pos n) h = omega (arith, decimal-length 19 n h)
+integer_most (negsuc n) h = omega (arith, decimal-length 19 (suc n) h)
 
-plain_text : (v : ℤ) → negative v ≡ false → integer_text v ≡ decimal (nat_abs v)
+-- std's words for the same, which tell numbers of at most 64 digits
+
+pub std_decimal : (n : ℕ) → n < 10 ^ 64 → std·decimal n ≡ decimal n
+std_decimal n h =
+    decimal_by_steps_wide (λ m ds. ds ≡ decimal m) (λ m l. sym (decimal_small m l))
+    (λ m ds l e. ap (λ (x : List ℕ). x ++ ((digit0 + m % 10) ∷ [])) e ∙ sym (decimal_step m l)) n h
+
+pub std_integer : (v : ℤ) → nat_abs v < 10 ^ 64 → signed_decimal v ≡ integer_text v
 unfolding integer_text
-plain_text (pos n) e = refl
-plain_text (negsuc n) e = absurd (let z : ◌≡◌ {A = ℕ} 0 1 = cc in omega arith)
+std_integer (pos n) h = std_decimal n h
+std_integer (negsuc n) h = ap (λ (l : List ℕ). minus ∷ l) (std_decimal (suc n) h)
 
-pub negative_size : (n : ℕ) → ltb 0 n ≡ negative (neg_ℤ (pos n))
-negative_size zero = refl
-negative_size (suc n) = lt-ltb 0 (suc n) (omega arith)
-
--- the same of an integer as the code holds it
-module _ (z : Integer) where
-  pub code_minus_text : negative (integer z) ≡ true → integer_text (integer z) ≡ (minus ∷ []) ++ decimal z.size
-  code_minus_text e = minus_text (integer z) e ∙ ap (λ (n : ℕ). minus ∷ decimal n) (integer-size z)
-
-  pub code_plain_text : negative (integer z) ≡ false → integer_text (integer z) ≡ decimal z.size
-  code_plain_text e = plain_text (integer z) e ∙ ap decimal (integer-size z)
+pub above_text : (v : ℤ) (n : ℕ) → v ≡ pos n → integer_text v ≡ decimal n
+unfolding integer_text
+above_text v n e = rw e

@@ -5,7 +5,7 @@ use mathlib.Core.Path.{◌≡◌, refl, sym, ap, ◌∙◌}
 use native.Mathlib.Omega.{arith}
 use native.Mathlib.Numerals.{add-one}
 use borrow.Rule.Slice.PartMut.{put_mid}
-use lib.ListN.{length, take, drop, set, length-append, length-drop, length-take, drop_of_length-le}
+use lib.ListN.{length, take, drop, set, length-append, length-drop, length-take, drop_of_length-le, take-append-drop}
 use lib.Seq.{take_all, take-length, take-append_seam, drop-append_seam, drop-append-add, set-append_seam, drop-drop, drop-cons, sets, sets-eq}
 use Rattle.questions.specs.Buffers.{over}
 
@@ -58,6 +58,23 @@ over-sets t b xs h =
 pub copied : (s b d : List ℕ) → d ≡ take (length s) s ++ drop (length s) b → d ≡ over s b
 unfolding over
 copied s b d e = e ∙ ap (λ (l : List ℕ). l ++ drop (length s) b) (take-length s)
+
+-- Texts go one behind another: t was put at a place, next is the place behind it, and r is left.
+pub behind_next : (t r whole b d e : List ℕ) (at next : ℕ) → next ≡ at + length t → take next e ≡ take at d ++ t → drop next e ≡ drop next d
+    → take at d ++ over (t ++ r) (drop at d) ≡ over whole b → take next e ++ over r (drop next e) ≡ over whole b
+unfolding over
+behind_next t r whole b d e at next place front rest h =
+    let behind : drop (length r) (drop next e) ≡ drop (length (t ++ r)) (drop at d) =
+    ap (drop (length r)) (rest ∙ ap (λ (k : ℕ). drop k d) place) ∙ drop-drop (length r) (at + length t) d
+    ∙ ap (λ (k : ℕ). drop k d) (omega (arith, length-append t r)) ∙ sym (drop-drop (length (t ++ r)) at d) in
+    ap (λ (l : List ℕ). l ++ (r ++ drop (length r) (drop next e))) front
+    ∙ ap (λ (l : List ℕ). (take at d ++ t) ++ (r ++ l)) behind
+    ∙ append_assoc (take at d) t _ ∙ ap (λ (l : List ℕ). take at d ++ l) (sym (append_assoc t r _)) ∙ h
+
+-- nothing is left
+pub behind_last : (r whole b d : List ℕ) (at : ℕ) → r ≡ [] → take at d ++ over r (drop at d) ≡ over whole b → d ≡ over whole b
+unfolding over
+behind_last r whole b d at e h = sym (take-append-drop at d) ∙ ap (λ (l : List ℕ). take at d ++ over l (drop at d)) (sym e) ∙ h
 
 -- The buffer was b and is d, with t at its front; the part of d from a on is lent, for the text u.
 module _ (t u b d : List ℕ) (a : ℕ) (ea : a ≡ length t) (ed : d ≡ over t b) (room : length t + length u ≤ length b) where

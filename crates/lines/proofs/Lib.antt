@@ -1,3 +1,4 @@
+pub mod Tests
 pub mod LentParts
 pub mod DecimalLaws
 pub mod RowLaws
@@ -14,4 +15,5 @@ pub mod ReadBack
 pub mod FixedLaws
 pub mod ReadTables
 pub mod ReadLoop
+pub mod Fitted
 pub mod Laws

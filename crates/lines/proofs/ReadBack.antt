@@ -6,21 +6,21 @@ use mathlib.Core.Path.{◌≡◌, refl, sym, ap, ◌∙◌}
 use native.Mathlib.Omega.{arith}
 use borrow.Author.Tests.{ltb-true, ltb-false, eqb-true, eq-eqb, ne_eqb, le-leb}
 use lib.Dec.{ltb, eqb}
-use lib.IntN.{ℤ, pos, negsuc}
+use lib.IntN.{ℤ, pos, negsuc, nat_abs}
 use lib.ListN.{length, drop}
 use lib.Seq.{drop-append_seam}
-use Rattle.pair.proofs.Numbers.{by_test, and_both}
+use Rattle.lines.proofs.Tests.{by_test, and_both}
 use Rattle.lines.specs.Ascii.{newline, digit0, minus}
 use Rattle.lines.specs.Decimal.{decimal, integer_text}
 use Rattle.lines.specs.declared.keys.Kind.{Kind}
 use Rattle.lines.specs.declared.keys.Kind.TheVariants.{Letter, Number, Signed}
 use Rattle.lines.specs.Fields.{Field}
-use Rattle.lines.specs.Texts.{letter_of, letter_values, most_digits, value_text, line_text, SpeltAs, Spelt}
+use Rattle.lines.specs.Texts.{letter_of, letter_values, most_digits, value_text, line_text, SpeltAs, Spelt, SpeltIn, Words}
 use Rattle.lines.specs.Reading.{got, bad, first, rest, is_digit, ended, read_digits}
 use Rattle.lines.specs.Reading.{read_number, negated, read_signed, read_letter, read_value, begins, read_line}
 use Rattle.lines.proofs.DecimalLaws.{decimal_small, decimal_step, length_small, length_step, decimal-length}
 use Rattle.lines.proofs.ReadSteps.{negated_more}
-use Rattle.lines.proofs.ReadFound.{bad_not_got, line_of}
+use Rattle.lines.proofs.ReadFound.{bad_not_got, line_found, line_of}
 
 pub digit_first : (d : ℕ) → d < 10 → is_digit (digit0 + d) ≡ true
 digit_first d h = and_both (le-leb digit0 (digit0 + d) (omega arith)) (le-leb (digit0 + d) (digit0 + 9) (omega arith))
@@ -121,3 +121,27 @@ line_back F v t h =
     ∙ ap (λ (b : Bool). cond b (read_value F.kind (drop (length F.key) (F.key ++ text))) bad) (begins_back F.key text)
     ∙ ap (read_value F.kind) (drop-append_seam F.key text)
     ∙ value_back F.kind v t h
+
+-- what can stand in a line fits a word
+spelt_word : (F : Field) (v : ℤ) → Spelt F v → nat_abs v < 2 ^ 64
+unfolding Spelt
+spelt_word F v h = of_kind F.kind v h
+  where
+    of_kind : (k : Kind) (v : ℤ) → SpeltAs k v → nat_abs v < 2 ^ 64
+    of_kind (Letter x y) (pos n) h = omega (arith, letters_two x y)
+    of_kind (Letter x y) (negsuc n) h = absurd h
+    of_kind Number (pos n) h = omega arith
+    of_kind Number (negsuc n) h = absurd h
+    of_kind Signed v h = omega arith
+
+-- the value of a line that is read fits 64 bits
+pub line_word : (F : Field) (s : List ℕ) (v : ℤ) (t : List ℕ) → read_line F s ≡ got v t → nat_abs v < 2 ^ 64
+line_word F s v t e = spelt_word F v (line_found F s v t e).0
+
+pub spelt_words : (T : List Field) (vs : List ℤ) → SpeltIn T vs → Words vs
+unfolding SpeltIn
+spelt_words [] [] h i = omega arith
+spelt_words [] (v ∷ vs) h i = absurd h
+spelt_words (F ∷ T) [] h i = absurd h
+spelt_words (F ∷ T) (v ∷ vs) h zero = spelt_word F v h.0
+spelt_words (F ∷ T) (v ∷ vs) h (suc i) = spelt_words T vs h.1 i

@@ -8,8 +8,8 @@ use native.Mathlib.Omega.{arith}
 use borrow.Author.Tests.{eqb-true, eqb-false, ne_eqb}
 use lib.Dec.{eqb}
 use lib.IntN.{ℤ, pos, neg_ℤ, nat_abs}
-use lib.ListN.{length, drop}
-use Rattle.pair.proofs.Numbers.{by_test, and_left, and_right}
+use lib.ListN.{length, drop, length-append}
+use Rattle.lines.proofs.Tests.{by_test, and_left, and_right}
 use Rattle.lines.specs.Ascii.{newline, digit0, minus}
 use Rattle.lines.specs.Decimal.{decimal, integer_text}
 use Rattle.lines.specs.declared.keys.Kind.{Kind}
@@ -233,3 +233,9 @@ line_found F s v t e =
     let f = value_text_lem F.kind (drop (length F.key) s) v t k in
     (f.spelt, begins_text F.key s g ∙ ap (λ (l : List ℕ). F.key ++ l) f.text ∙ sym (line_of F v t)))
     (λ g k. absurd (bad_not_got k))
+
+-- what stands behind a line is shorter than what the line was read from
+pub line_shorter : (F : Field) (s : List ℕ) (v : ℤ) (t : List ℕ) → read_line F s ≡ got v t → length t < length s
+line_shorter F s v t e =
+    let text : s ≡ F.key ++ (value_text F.kind v ++ (newline ∷ t)) = (line_found F s v t e).1 ∙ line_of F v t in
+    omega (arith, ap length text, length-append F.key (value_text F.kind v ++ (newline ∷ t)), length-append (value_text F.kind v) (newline ∷ t))

@@ -1,5 +1,5 @@
 -- Runs of so many: the first, and those behind it; joined they are the list; how many; what tells them. Rows of numbers, and how the code writes them.
-use Prim.Native.Nat.{ℕ, zero, suc, ◌+◌, ◌-◌, ◌/◌, ◌≤◌, ◌<◌, min}
+use Prim.Native.Nat.{ℕ, zero, suc, ◌+◌, ◌-◌, ◌*◌, ◌^◌, ◌/◌, ◌≤◌, ◌<◌, min}
 use mathlib.Core.List.{List, [], ◌∷◌, ◌++◌, append_assoc, append-nil, map, map-append}
 use mathlib.Core.Path.{◌≡◌, refl, sym, ap, ◌∙◌}
 use native.Mathlib.Nat.{add-div_right, div-eq_of_lt}
@@ -7,13 +7,14 @@ use native.Mathlib.Omega.{arith}
 use borrow.Author.Tests.{ltb-true, ltb-false}
 use borrow.Rule.Slice.PartMut.{put_mid}
 use lib.Dec.{ltb}
-use lib.ListN.{length, take, drop, length-append, length-take, length-drop, take-append-drop, drop_of_length-le}
+use lib.ListN.{length, get_or, take, drop, length-append, length-take, length-drop, take-append-drop, drop_of_length-le}
 use lib.Seq.{take_all, take_at, take-take, drop_at, drop-drop}
-use Rattle.pair.proofs.Numbers.{by_test}
+use Rattle.lines.proofs.Tests.{by_test}
 use Rattle.questions.specs.Buffers.{over}
 use Rattle.lines.specs.Decimal.{decimal, row_text}
 use Rattle.lines.specs.Runs.{runs_in, runs, RunsOf, rows_text}
 use Rattle.lines.specs.Splitting.{joined}
+use Rattle.lines.proofs.DecimalLaws.{decimal-length}
 use Rattle.lines.proofs.LentParts.{length-over, over_nothing, part_room, part_written}
 
 -- The runs that k elements make, and those behind the first.
@@ -67,6 +68,17 @@ module _ {A : Type 0} where
   runs_next n (x ∷ xs) p h =
       let rest = drop n (x ∷ xs) in
       ap (λ (l : List (List A)). take n (x ∷ xs) ∷ l) (enough (length xs) (length rest) n rest p (omega (arith, length-drop n (x ∷ xs))) (omega arith))
+
+  -- the first run as the library's chunks give it
+  pub runs_chunk : (n : ℕ) (all chunk rest : List A) → 1 ≤ n → all ≡ chunk ++ rest → length chunk ≡ min n (length all) → 0 < length all
+      → runs n all ≡ chunk ∷ runs n rest
+  runs_chunk n all chunk [] p e size some =
+      let whole : all ≡ chunk = e ∙ append-nil chunk in
+      runs_next n all p some
+      ∙ rw (take_all n all (omega (arith, ap length whole)), drop_of_length-le all {i = n} (omega (arith, ap length whole)), whole) refl
+  runs_chunk n all chunk (x ∷ rest) p e size some =
+      let full : length chunk ≡ n = omega (arith, ap length e, length-append chunk (x ∷ rest)) in
+      runs_next n all p some ∙ rw e (rw (take_at chunk (x ∷ rest) n full, drop_at chunk (x ∷ rest) n full) refl)
 
   -- What holds of no elements, and of some where it holds of those behind the first run.
   module _ (n : ℕ) (P : List A → Type 0) (p : 1 ≤ n) (none : P []) (more : (xs : List A) → 0 < length xs → P (drop n xs) → P xs) where
@@ -158,6 +170,12 @@ pub row_size : (n : ℕ) (ns : List ℕ) → length (row_text (n ∷ ns)) ≡ le
 unfolding row_text
 row_size n ns = simp length-append (omega arith)
 
+-- numbers of 64 bits take at most 21 bytes each
+pub row_most : (ns : List ℕ) → ((i : ℕ) → get_or ns i 0 < 10 ^ 20) → length (row_text ns) ≤ 21 * length ns
+unfolding row_text
+row_most [] h = omega arith
+row_most (n ∷ ns) h = omega (arith, row_size n ns, decimal-length 19 n (h 0), row_most ns (λ i. h (suc i)))
+
 -- one row of all numbers takes as many bytes as two rows of them
 pub row_sizes_append : (xs ys : List ℕ) → length (row_text (xs ++ ys)) ≡ length (row_text xs) + length (row_text ys)
 unfolding row_text
@@ -167,6 +185,17 @@ row_sizes_append (x ∷ xs) ys = omega (arith, row_size x (xs ++ ys), row_size x
 rows_next : (w : ℕ) (ns : List ℕ) → 1 ≤ w → 0 < length ns → rows_text (runs w ns) ≡ row_text (take w ns) ++ rows_text (runs w (drop w ns))
 unfolding rows_text joined
 rows_next w ns p h = ap rows_text (runs_next w ns p h)
+
+-- rows by their first, as the library's chunks give it
+pub rows_chunk : (w : ℕ) (all row rest : List ℕ) → 1 ≤ w → all ≡ row ++ rest → length row ≡ min w (length all) → 0 < length all
+    → rows_text (runs w all) ≡ row_text row ++ rows_text (runs w rest)
+unfolding rows_text joined
+rows_chunk w all row rest p e size some = ap rows_text (runs_chunk w all row rest p e size some)
+
+pub rows_ended : (w : ℕ) (ns : List ℕ) → length ns ≡ 0 → rows_text (runs w ns) ≡ []
+unfolding rows_text joined
+rows_ended w [] h = rw runs_none
+rows_ended w (n ∷ ns) h = absurd (omega arith)
 
 -- rows take as many bytes as one row of all numbers
 pub rows_length : (w : ℕ) (ns : List ℕ) → 1 ≤ w → length (rows_text (runs w ns)) ≡ length (row_text ns)

@@ -7,7 +7,7 @@ use native.Mathlib.Omega.{arith}
 use borrow.Author.Tests.{ne_eqb}
 use lib.IntN.{ℤ, pos, negsuc, nat_abs}
 use lib.ListN.{length, get_or, take, drop, length-append}
-use Rattle.pair.proofs.Numbers.{and_left, and_right}
+use Rattle.lines.proofs.Tests.{and_left, and_right}
 use Rattle.lines.specs.declared.keys.Kind.{Kind}
 use Rattle.lines.specs.declared.keys.Kind.TheVariants.{Letter, Number, Signed}
 use Rattle.lines.specs.Decimal.{integer_text}

@@ -9,7 +9,9 @@ use borrow.Author.Tests.{eq-eqb, ne_eqb, eqb-true, eqb-false}
 use lib.Dec.{eqb}
 use lib.ListN.{length, get_or, take, drop, length-drop, drop_of_length-le}
 use lib.Seq.{drop-drop, drop-cons}
-use Rattle.pair.proofs.Numbers.{by_test}
+use Rattle.std.specs.Prelude.{Some, None, ◌==◌}
+use Rattle.std.specs.List.{position_from}
+use Rattle.lines.proofs.Tests.{by_test}
 use Rattle.lines.specs.Ascii.{newline}
 use Rattle.lines.specs.Splitting.{first_line, line_end, lengthened, split_lines, joined, newlines, unended, Whole, CutShort, LinesOf}
 
@@ -44,6 +46,33 @@ module _ (s : List ℕ) (at : ℕ) where
         by_byte (get_or s at 0)
         (λ e. omega (arith, end_here e))
         (λ n. omega (arith, end_more n))
+
+-- the first line by the place of its newline, where places count from i on
+pub line_found : (i k : ℕ) (s : List ℕ) → position_from (λ b. b == newline) i s ≡ Some k → i + length (first_line s) ≡ k + 1
+unfolding first_line
+line_found i k [] e = absurd (let z : ◌≡◌ {A = ℕ} 0 1 = cc in omega arith)
+line_found i k (b ∷ s) e =
+    by_byte b
+    (λ h. let here : Some i ≡ Some k = sym (rw (eq-eqb b newline h)) ∙ e in let one : i ≡ k = cc in rw (eq-eqb b newline h) (omega arith))
+    (λ n. let onward : position_from (λ b. b == newline) (i + 1) s ≡ Some k = sym (rw (ne_eqb b newline n)) ∙ e in
+    rw (ne_eqb b newline n) (omega (arith, line_found (i + 1) k s onward)))
+
+pub first_line_most : (s : List ℕ) → length (first_line s) ≤ length s
+unfolding first_line
+first_line_most [] = omega arith
+first_line_most (b ∷ s) =
+    by_byte b
+    (λ e. rw (eq-eqb b newline e) (omega arith))
+    (λ n. rw (ne_eqb b newline n) (omega (arith, first_line_most s)))
+
+pub line_unended : (i : ℕ) (s : List ℕ) → position_from (λ b. b == newline) i s ≡ None → length (first_line s) ≡ length s
+unfolding first_line
+line_unended i [] e = refl
+line_unended i (b ∷ s) e =
+    by_byte b
+    (λ h. let here : Some i ≡ None = sym (rw (eq-eqb b newline h)) ∙ e in absurd (let z : ◌≡◌ {A = ℕ} 0 1 = cc in omega arith))
+    (λ n. let onward : position_from (λ b. b == newline) (i + 1) s ≡ None = sym (rw (ne_eqb b newline n)) ∙ e in
+    rw (ne_eqb b newline n) (omega (arith, line_unended (i + 1) s onward)))
 
 -- By the first byte: it is a newline, or not.
 module _ (b : ℕ) (s : List ℕ) where

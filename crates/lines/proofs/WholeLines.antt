@@ -8,7 +8,7 @@ use borrow.Author.Tests.{eqb-true, ltb-true, ltb-false}
 use lib.Dec.{eqb, ltb}
 use lib.IntN.{ℤ, pos, negsuc, nat_abs}
 use lib.ListN.{length, length-append}
-use Rattle.pair.proofs.Numbers.{and_left, and_right, by_test}
+use Rattle.lines.proofs.Tests.{and_left, and_right, by_test}
 use Rattle.lines.specs.declared.keys.Kind.{Kind}
 use Rattle.lines.specs.declared.keys.Kind.TheVariants.{Letter, Number, Signed}
 use Rattle.lines.specs.Ascii.{newline, minus, digit0}

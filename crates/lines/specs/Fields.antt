@@ -1,5 +1,5 @@
 -- The rows of a table of lines: a key, and what may stand behind it. A table is a list of them, in the order of the lines.
-use Rattle.std.specs.Prelude.{ℕ, List, take}
+use Rattle.std.specs.Prelude.{ℕ, List}
 use Rattle.lines.specs.declared.keys.Kind.{Kind}
 use Rattle.lines.specs.declared.keys.Key.{Key}
 
@@ -8,6 +8,6 @@ pub record Field : Type 0 where
   pub key : List ℕ
   pub kind : Kind
 
--- what a row of the code stands for: the zeros behind its key are no part of it
-unfoldable pub field : Key → Field
-field k = record { key = take k.length k.text; kind = k.kind }
+-- what a row of the code stands for
+abbrev pub field : Key → Field
+field k = record { key = k.text.now; kind = k.kind }

@@ -6,3 +6,4 @@ pub mod Reading
 pub mod Splitting
 pub mod Runs
 pub mod Forms
+pub mod Fitting

@@ -1,5 +1,5 @@
 -- Lines key=value, each ended by a newline, for any table of keys; and the values that can stand in them.
-use Rattle.std.specs.Prelude.{ℕ, suc, ◌+◌, ◌^◌, ◌<◌, cond, List, [], ◌∷◌, ◌++◌, ◌≡◌, eqb, length, ℤ, pos, negsuc, nat_abs}
+use Rattle.std.specs.Prelude.{ℕ, suc, ◌+◌, ◌^◌, ◌<◌, cond, List, [], ◌∷◌, ◌++◌, ◌≡◌, eqb, length, get_or, ℤ, pos, negsuc, nat_abs}
 use Rattle.lines.specs.declared.keys.Kind.{Kind}
 use Rattle.lines.specs.declared.keys.Kind.TheVariants.{Letter, Number, Signed}
 use Rattle.lines.specs.Ascii.{newline}
@@ -52,6 +52,10 @@ SpeltIn [] [] = Unit
 SpeltIn [] (v ∷ vs) = ⊥
 SpeltIn (f ∷ T) [] = ⊥
 SpeltIn (f ∷ T) (v ∷ vs) = Spelt f v × SpeltIn T vs
+
+-- each value fits a word, but for its minus
+abbrev pub Words : List ℤ → Type 0
+Words vs = (i : ℕ) → nat_abs (get_or vs i (pos 0)) < 2 ^ 64
 
 -- the most bytes that a value, a line, and the lines of a table can take
 abbrev pub longest_value : Kind → ℕ

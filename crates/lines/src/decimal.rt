@@ -1,10 +1,10 @@
 // Numbers in decimal, with no leading zero and no minus before 0, or with so many digits.
-ghost use Rattle.std.specs.Prelude.{◌≡◌, ◌≤◌, length};
-ghost use Rattle.pair.specs.Forms.{integer};
-ghost use Rattle.lines.specs.Decimal.{decimal, negative, integer_text, fixed_text};
+ghost use Rattle.std.specs.Prelude.{◌≡◌, ◌+◌, ◌≤◌, ◌<◌, length};
 ghost use Rattle.questions.specs.Buffers.{over};
+ghost use Rattle.lines.specs.Decimal.{decimal, integer_text, fixed_text};
 
-use pair::signed::Integer;
+use crate::texts::Text;
+use itoa::{Buffer, write_digits};
 
 // How many digits n has.
 pub fn width(n: u64) -> usize
@@ -26,69 +26,73 @@ pub fn width(n: u64) -> usize
     width(n / 10_000) + 4
 }
 
-// Writes n at the start of out, and answers its length: the digits from the last to the first.
-pub fn put_decimal(out: &mut [u8], n: u64) -> usize
-    requires { length (decimal n) ≤ length out.old }
-    ensures value { result ≡ length (decimal n) }
-    ensures out_after { out.new ≡ over (decimal n) out.old }
-{
-    let k = width(n);
-    let mut left = n;
-    let mut at = k;
-    while at > 1 {
-        at -= 1;
-        out[at] = b'0' + (left % 10) as u8;
-        left = left / 10;
+impl Text for u64 {
+    ghost bytes = { decimal };
+
+    fn length(&self) -> usize {
+        width(*self)
     }
-    out[0] = b'0' + left as u8;
-    k
+
+    #[tactic(auto, using(crate::proofs::DecimalLaws::std_decimal), unfolding(questions::specs::Buffers::over))]
+    fn put(&self, out: &mut [u8]) -> usize {
+        let n = width(*self);
+        write_digits(*self, out, n);
+        n
+    }
 }
 
-// Whether v has a minus: none stands before 0.
-fn has_minus(v: Integer) -> bool
-    ensures { result ≡ negative (integer v) }
-{
-    let below = v.below;
-    if below {
-        return v.size > 0;
+impl Text for i128 {
+    ghost bytes = { integer_text };
+
+    #[tactic(auto, using(crate::proofs::DecimalLaws::std_integer, crate::proofs::DecimalLaws::above_text))]
+    fn length(&self) -> usize {
+        match u64::try_from(*self) {
+            Ok(n) => width(n),
+            Err(_) => Buffer::new().format(*self).len(),
+        }
     }
-    false
+
+    // A number of 64 bits needs no buffer of its own.
+    #[tactic(auto, using(crate::proofs::DecimalLaws::std_integer, crate::proofs::DecimalLaws::above_text))]
+    fn put(&self, out: &mut [u8]) -> usize {
+        match u64::try_from(*self) {
+            Ok(n) => n.put(out),
+            Err(_) => Buffer::new().format(*self).as_bytes().put(out),
+        }
+    }
 }
 
-// How many bytes v takes.
-pub fn integer_width(v: Integer) -> usize
-    ensures value { result ≡ length (integer_text (integer v)) }
-    ensures upper_bound { result ≤ 21 }
-{
-    if has_minus(v) {
-        return 1 + width(v.size);
-    }
-    width(v.size)
+// The last so many digits of a number, zeros in front where it has fewer.
+#[derive(Clone, Copy, Debug, PartialEq, Eq)]
+pub struct Fixed {
+    pub number: u64,
+    pub digits: usize,
 }
 
-// Writes v at the start of out, and answers its length.
-pub fn put_integer(out: &mut [u8], v: Integer) -> usize
-    requires { length (integer_text (integer v)) ≤ length out.old }
-    ensures value { result ≡ length (integer_text (integer v)) }
-    ensures out_after { out.new ≡ over (integer_text (integer v)) out.old }
-{
-    if has_minus(v) {
-        out[0] = b'-';
-        return 1 + put_decimal(&mut out[1..], v.size);
+impl Text for Fixed {
+    ghost bytes = { λ f. fixed_text f.digits f.number };
+
+    #[tactic(auto, using(crate::proofs::DecimalLaws::fixed_length))]
+    fn length(&self) -> usize {
+        self.digits
     }
-    put_decimal(out, v.size)
+
+    #[tactic(auto, using(crate::proofs::DecimalLaws::fixed_length))]
+    fn put(&self, out: &mut [u8]) -> usize {
+        put_digits(out, self.number, self.digits);
+        self.digits
+    }
 }
 
-// Writes the last `digits` digits of n at the start of out, zeros in front where it has fewer.
-pub fn put_fixed(out: &mut [u8], n: u64, digits: usize)
+// The digits before the last, and the last behind them.
+#[tactic(auto, unfolding(crate::specs::Decimal::fixed_text, questions::specs::Buffers::over))]
+fn put_digits(out: &mut [u8], n: u64, digits: usize)
     requires { digits ≤ length out.old }
     ensures { out.new ≡ over (fixed_text digits n) out.old }
 {
-    let mut left = n;
-    let mut at = digits;
-    while at > 0 {
-        at -= 1;
-        out[at] = b'0' + (left % 10) as u8;
-        left = left / 10;
+    if digits > 0 {
+        let last = digits - 1;
+        put_digits(out, n / 10, last);
+        out[last] = b'0' + (n % 10) as u8;
     }
 }

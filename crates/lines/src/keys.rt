@@ -2,19 +2,17 @@
 
 // What stands behind a key: one of two letters, for 0 and for 1; a number; a number that may have a
 // minus.
-#[derive(Clone, Copy)]
+#[derive(Clone, Copy, Debug, PartialEq, Eq)]
 pub enum Kind {
     Letter(u8, u8),
     Number,
     Signed,
 }
 
-// A key with its '=', filled up with zeros to one length for all, how long it is, and the kind of its
-// value.
-#[derive(Clone, Copy)]
-pub struct Key {
-    pub text: [u8; 8],
-    pub length: usize,
+// A key with its '=', and the kind of its value.
+#[derive(Clone, Copy, Debug, PartialEq, Eq)]
+pub struct Key<'a> {
+    pub text: &'a [u8],
     pub kind: Kind,
 }
 

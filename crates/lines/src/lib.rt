@@ -1,7 +1,7 @@
 // Bytes: whole numbers in decimal, lines key=value for any table of keys, each ended by byte 10,
-// written straight into a lent part of a buffer and read back; bytes split into lines. A crate above
-// holds its table as an array of rows (`keys::Key`) and has the loop over it, whose proof stands on
-// proofs/Laws. specs/Texts says which text lines are, specs/Reading what reading them gives.
+// written straight into a lent part of a buffer and read back; bytes split into lines. Whatever can be
+// written is a `texts::Text`. A crate above holds its table as an array of keys (`keys::Key`).
+// specs/Texts says which text lines are, specs/Reading what reading them gives.
 #![tactic(auto)]
 
 pub mod decimal;
@@ -9,4 +9,5 @@ pub mod keys;
 pub mod reading;
 pub mod rows;
 pub mod splitting;
+pub mod texts;
 pub mod writing;

@@ -1,8 +1,28 @@
 // Splitting bytes into lines, and counting them.
-ghost use Rattle.std.specs.Prelude.{◌≡◌, ◌≤◌, length};
-ghost use Rattle.lines.specs.Splitting.{line_end, newlines, unended};
+ghost use Rattle.std.specs.Prelude.{◌≡◌, ◌≤◌, ◌==◌, length};
+ghost use Rattle.std.specs.List.{position_from};
+ghost use Rattle.lines.specs.Ascii.{newline};
+ghost use Rattle.lines.specs.Splitting.{first_line, line_end, newlines, unended};
 
 use crate::keys::NEWLINE;
+
+// The place of the first newline.
+fn first_newline(s: &[u8]) -> Option<usize>
+    ensures { result ≡ position_from (λ b. b == newline) 0 s.now }
+{
+    s.iter().position(|b| *b == NEWLINE)
+}
+
+// How many bytes the first line has.
+fn first_length(s: &[u8]) -> usize
+    ensures value { result ≡ length (first_line s.now) }
+    ensures upper_bound { result ≤ length s.now }
+{
+    match first_newline(s) {
+        Some(before) => before + 1,
+        None => s.len(),
+    }
+}
 
 // The place behind the next newline at or behind `at`; the end of s where there is none.
 pub fn line_end(s: &[u8], at: usize) -> usize
@@ -10,14 +30,7 @@ pub fn line_end(s: &[u8], at: usize) -> usize
     ensures value { result ≡ line_end s.now at }
     ensures upper_bound { result ≤ length s.now }
 {
-    let mut next = at;
-    while next < s.len() {
-        if s[next] == NEWLINE {
-            return next + 1;
-        }
-        next += 1;
-    }
-    next
+    at + first_length(&s[at..])
 }
 
 // How many newlines s has.
@@ -25,29 +38,15 @@ pub fn newline_count(s: &[u8]) -> usize
     ensures value { result ≡ newlines s.now }
     ensures upper_bound { result ≤ length s.now }
 {
-    let mut n = 0;
-    let mut i = 0;
-    while i < s.len() {
-        if s[i] == NEWLINE {
-            n += 1;
-        }
-        i += 1;
-    }
-    n
+    s.iter().filter(|b| **b == NEWLINE).count()
 }
 
-// 1 where bytes stand behind the last newline, and 0 elsewhere.
-pub fn unended_count(s: &[u8]) -> usize
-    ensures value { result ≡ unended s.now }
-    ensures upper_bound { result ≤ 1 }
+// Whether bytes stand behind the last newline.
+pub fn is_unended(s: &[u8]) -> bool
+    ensures { result ≡ (unended s.now == 1) }
 {
-    let n = s.len();
-    if n == 0 {
-        return 0;
+    match s.last() {
+        Some(b) => *b != NEWLINE,
+        None => false,
     }
-    let last = n - 1;
-    if s[last] == NEWLINE {
-        return 0;
-    }
-    1
 }

@@ -1,100 +1,115 @@
-// Writing lines. A writer takes the rest of the lent buffer and puts its text at the front of it;
-// every byte behind is kept.
-ghost use Rattle.std.specs.Prelude.{◌≡◌, ◌≤◌, length, take};
-ghost use Rattle.pair.specs.Forms.{integer};
-ghost use Rattle.questions.specs.Buffers.{over};
+// Lines key=value as texts.
+ghost use Rattle.std.specs.Prelude.{◌≡◌, ◌+◌, ◌≤◌, length, map};
 ghost use Rattle.lines.specs.Fields.{field};
-ghost use Rattle.lines.specs.Texts.{letter_of, value_text, line_text};
+ghost use Rattle.lines.specs.Texts.{letter_of, value_text, line_text, lines_text};
 
-use crate::decimal;
 use crate::keys::{Key, Kind, NEWLINE};
-use pair::signed::Integer;
+use crate::texts;
+use crate::texts::{Behind, Byte, Text};
 
-// How many bytes a key has, at most those of its row.
-pub fn key_length(key: Key) -> usize
-    ensures text_value { take result key.text ≡ (field key).key }
-    ensures value { result ≡ length (field key).key }
-    ensures upper_bound { result ≤ 8 }
-{
-    let n = key.length;
-    if n < 8 {
-        return n;
-    }
-    8
+// What stands behind a key.
+#[derive(Clone, Copy, Debug, PartialEq, Eq)]
+pub struct Value {
+    pub kind: Kind,
+    pub value: i128,
 }
 
-fn value_width(kind: Kind, v: Integer) -> usize
-    ensures value { result ≡ length (value_text kind (integer v)) }
-    ensures upper_bound { result ≤ 21 }
-{
-    match kind {
-        Kind::Letter(_, _) => 1,
-        _ => decimal::integer_width(v),
-    }
-}
+impl Text for Value {
+    ghost bytes = { λ v. value_text v.kind v.value };
 
-fn letter_of(zero: u8, one: u8, v: Integer) -> u8
-    ensures { result ≡ letter_of zero one (integer v) }
-{
-    let size = v.size;
-    if size == 0 {
-        return zero;
-    }
-    one
-}
-
-fn put_value(out: &mut [u8], kind: Kind, v: Integer) -> usize
-    requires { length (value_text kind (integer v)) ≤ length out.old }
-    ensures value { result ≡ length (value_text kind (integer v)) }
-    ensures out_after { out.new ≡ over (value_text kind (integer v)) out.old }
-{
-    match kind {
-        Kind::Letter(zero, one) => {
-            out[0] = letter_of(zero, one, v);
-            1
+    #[tactic(auto, unfolding(crate::specs::Texts::value_text))]
+    fn length(&self) -> usize {
+        match self.kind {
+            Kind::Letter(_, _) => 1,
+            _ => self.value.length(),
         }
-        _ => decimal::put_integer(out, v),
     }
-}
 
-// Writes the key at the start of out, and answers its length. Byte by byte: a call that copies takes
-// longer for so few.
-fn put_key(out: &mut [u8], key: Key) -> usize
-    requires { length (field key).key ≤ length out.old }
-    ensures value { result ≡ length (field key).key }
-    ensures out_after { out.new ≡ over (field key).key out.old }
-{
-    let text = key.text;
-    let n = key_length(key);
-    let mut j = 0;
-    while j < 8 {
-        if j < n {
-            out[j] = text[j];
+    #[tactic(auto, unfolding(crate::specs::Texts::value_text))]
+    fn put(&self, out: &mut [u8]) -> usize {
+        match self.kind {
+            Kind::Letter(zero, one) => Byte(letter_of(zero, one, self.value)).put(out),
+            _ => self.value.put(out),
         }
-        j += 1;
     }
-    n
 }
 
-// The length of the line with this key and the value v.
-pub fn line_length(key: Key, v: Integer) -> usize
-    ensures value { result ≡ length (line_text (field key) (integer v)) }
-    ensures upper_bound { result ≤ 30 }
+// The letter that stands for v.
+#[tactic(auto, unfolding(crate::specs::Texts::letter_of))]
+fn letter_of(zero: u8, one: u8, v: i128) -> u8
+    ensures { result ≡ letter_of zero one v }
 {
-    let kind = key.kind;
-    key_length(key) + value_width(kind, v) + 1
+    if v == 0 { zero } else { one }
 }
 
-// Writes the line with this key and the value v at the start of out, and answers its length.
-pub fn put_line(out: &mut [u8], key: Key, v: Integer) -> usize
-    requires { length (line_text (field key) (integer v)) ≤ length out.old }
-    ensures value { result ≡ length (line_text (field key) (integer v)) }
-    ensures out_after { out.new ≡ over (line_text (field key) (integer v)) out.old }
-{
-    let kind = key.kind;
-    let k = put_key(out, key);
-    let end = k + put_value(&mut out[k..], kind, v);
-    let next = end + 1;
-    out[end] = NEWLINE;
-    next
+// A line of a table: its key, its value, and a newline.
+#[derive(Clone, Copy, Debug, PartialEq, Eq)]
+pub struct Line<'a> {
+    pub key: Key<'a>,
+    pub value: i128,
+}
+
+impl<'a> Line<'a> {
+    fn text(&self) -> Behind<&'a [u8], Behind<Value, Byte>>
+        ensures key { result.0.now ≡ (field self.now.key).key }
+        ensures value { result.1.0 ≡ record { kind = (field self.now.key).kind; value = self.now.value } }
+        ensures newline { result.1.1.0 ≡ 10 }
+    {
+        let value = Value {
+            kind: self.key.kind,
+            value: self.value,
+        };
+        Behind(self.key.text, Behind(value, Byte(NEWLINE)))
+    }
+}
+
+impl Text for Line<'_> {
+    ghost bytes = { λ l. line_text (field l.key) l.value };
+
+    #[tactic(auto, unfolding(crate::specs::Texts::line_text))]
+    fn length(&self) -> usize {
+        self.text().length()
+    }
+
+    #[tactic(auto, unfolding(crate::specs::Texts::line_text))]
+    fn put(&self, out: &mut [u8]) -> usize {
+        self.text().put(out)
+    }
+}
+
+// The lines of a table with these values, as many as there are of both.
+#[derive(Clone, Copy, Debug, PartialEq, Eq)]
+pub struct Lines<'a> {
+    pub keys: &'a [Key<'a>],
+    pub values: &'a [i128],
+}
+
+impl Text for Lines<'_> {
+    ghost bytes = { λ t. lines_text (map field t.keys.now) t.values.now };
+
+    #[tactic(auto, unfolding(crate::specs::Texts::lines_text))]
+    fn length(&self) -> usize {
+        let mut n = 0;
+        for (key, value) in self.keys.iter().zip(self.values) {
+            n += Line {
+                key: *key,
+                value: *value,
+            }
+            .length();
+        }
+        n
+    }
+
+    #[tactic(auto, unfolding(crate::specs::Texts::lines_text, questions::specs::Buffers::over))]
+    fn put(&self, out: &mut [u8]) -> usize {
+        let mut at = 0;
+        for (key, value) in self.keys.iter().zip(self.values) {
+            let line = Line {
+                key: *key,
+                value: *value,
+            };
+            at = texts::put_behind(out, at, &line);
+        }
+        at
+    }
 }

@@ -1,193 +1,144 @@
 // What a case asks, and what it prints.
-ghost use Rattle.std.specs.Prelude.{◌+◌, ◌≤◌, ◌<◌, length};
+ghost use Rattle.std.specs.Prelude.{◌≤◌, ◌<◌, ◌^◌, length, unsigned_abs};
 
-use crate::hexadecimal::Case;
-use crate::table::{COUNT, ROWS, Verdict};
-use crate::{hexadecimal, table};
-use lines::keys::Key;
-use lines::reading::Line;
-use lines::{decimal, reading, rows, splitting, writing};
-use pair::signed::Integer;
+use crate::table;
+use lines::decimal::Fixed;
+use lines::rows::Row;
+use lines::texts::Text;
+use lines::writing::Line;
+use lines::{reading, splitting};
 use std::io;
+use std::io::ErrorKind;
 
 // The name of an answer, its number, and a newline.
 fn answer(rt: &impl Print, name: &str, number: u64) -> io::Result<()> {
     println!(rt; "{name} {number}")
 }
 
-// Prints what was written, n bytes, with the bytes before and behind.
-fn show(rt: &impl Print, name: &str, out: &[u8], n: usize) -> io::Result<()>
-    requires { n + 2 ≤ length out.now }
+// Writes the text into the middle of a buffer, and prints it with its length and with the bytes before
+// and behind.
+fn show<T: Text>(rt: &impl Print, name: &str, text: &T) -> io::Result<()>
+    requires { length (T.bytes text.now) ≤ 198 }
 {
+    let mut out = [b'.'; 200];
+    let n = text.put(&mut out[1..]);
     answer(rt, name, n as u64)?;
-    let end = n + 2;
-    rt.write_all(&out[..end])?;
+    rt.write_all(&out[..n + 2])?;
     rt.write_all(b"\n")
 }
 
-// The lines go into the middle of out.
-fn write_back(rt: &impl Print, out: &mut [u8], values: [Integer; COUNT]) -> io::Result<()>
-    requires { 200 ≤ length out.old }
-{
-    let n = table::lines_length(values);
-    table::write_lines(&mut out[1..], values);
-    show(rt, "right", out, n)
-}
-
-// The first n bytes are read as lines.
-fn read(rt: &impl Print, bytes: [u8; 512], n: usize) -> io::Result<()>
-    requires { n ≤ 512 }
-{
-    let read = table::read_lines(&bytes[..n]);
-    let verdict = read.verdict;
-    let values = read.values;
-    match verdict {
-        Verdict::Right => {
-            let mut out = [b'.'; 200];
-            write_back(rt, &mut out, values)
-        }
-        Verdict::BadLine(line) => answer(rt, "bad", line as u64),
+// The case is read as lines.
+fn read(rt: &impl Print, case: &[u8]) -> io::Result<()> {
+    match table::read_lines(case) {
+        Ok(values) => show(rt, "right", &table::text(&values)),
+        Err(bad) => answer(rt, "bad", bad.0 as u64),
     }
 }
 
-// The line goes into the middle of out.
-fn write(rt: &impl Print, out: &mut [u8], key: Key, v: Integer) -> io::Result<()>
-    requires { 200 ≤ length out.old }
-{
-    let n = writing::line_length(key, v);
-    writing::put_line(&mut out[1..], key, v);
-    show(rt, "line", out, n)
-}
-
-// One byte more of a size.
-fn with_byte(size: u64, byte: u8) -> u64 {
-    size % 72057594037927936 * 256 + byte as u64
-}
-
-// The number whose eight bytes begin at `at`.
-fn number_at(bytes: [u8; 512], at: usize) -> u64
-    requires { at ≤ 504 }
-{
-    let mut n = 0;
-    let mut i = 0;
-    while i < 8 {
-        n = with_byte(n, bytes[at + i]);
-        i += 1;
+// The number of eight bytes, or of as many as there are.
+fn number(bytes: &[u8]) -> u64 {
+    let mut n = 0u64;
+    for byte in &bytes[..bytes.len().min(8)] {
+        n = n.wrapping_mul(256).wrapping_add(*byte as u64);
     }
     n
 }
 
-// The first numbers of the case.
-fn numbers_of(bytes: [u8; 512], count: usize) -> [u64; 8]
-    requires { count ≤ 8 }
+// A size with its sign.
+fn signed(sign: u8, size: u64) -> i128
+    ensures { unsigned_abs result < 2 ^ 64 }
 {
-    let mut numbers = [0; 8];
-    let mut i = 0;
-    while i < count {
-        numbers[i] = number_at(bytes, i * 8);
-        i += 1;
+    if sign == 1 {
+        -(size as i128)
+    } else {
+        size as i128
     }
-    numbers
 }
 
-// How many numbers n bytes have, at most eight.
-fn count_of(n: usize) -> usize
-    ensures { result ≤ 8 }
-{
-    if n < 64 {
-        return n / 8;
-    }
-    8
-}
-
-// The numbers of the case go as a row into the middle of out.
-fn write_row(rt: &impl Print, bytes: [u8; 512], n: usize) -> io::Result<()> {
-    let count = count_of(n);
-    let numbers = numbers_of(bytes, count);
-    let mut out = [b'.'; 200];
-    put_numbers(rt, &mut out, &numbers[..count])
-}
-
-fn put_numbers(rt: &impl Print, out: &mut [u8], numbers: &[u64]) -> io::Result<()>
-    requires few_numbers { length numbers.now ≤ 8 }
-    requires in_bounds { 200 ≤ length out.old }
-{
-    let n = rows::row_length(numbers);
-    rows::put_row(&mut out[1..], numbers);
-    show(rt, "row", out, n)
-}
-
-// So many digits of the number go into the middle of out.
-fn write_fixed(rt: &impl Print, out: &mut [u8], digits: usize, n: u64) -> io::Result<()>
-    requires digits_bound { digits ≤ 20 }
-    requires in_bounds { 200 ≤ length out.old }
-{
-    decimal::put_fixed(&mut out[1..], n, digits);
-    show(rt, "fixed", out, digits)
-}
-
-// The digits behind the first byte of the case are read.
-fn read_fixed(rt: &impl Print, bytes: [u8; 512], n: usize, digits: usize) -> io::Result<()>
-    requires n_bound { n ≤ 512 }
-    requires digits_bound { digits ≤ 19 }
-{
-    let found = reading::fixed_at(&bytes[..n], 1, digits);
-    match found {
-        Line::Got(v, next) => {
-            answer(rt, "number", v.size)?;
-            answer(rt, "behind", next as u64)
+// A line from its row, its sign and its size.
+fn write(rt: &impl Print, case: &[u8]) -> io::Result<()> {
+    let [row, sign, size @ ..] = case else {
+        return Ok(());
+    };
+    match table::rows().get(*row as usize) {
+        Some(key) if key.text.len() <= 8 => {
+            let value = signed(*sign, number(size));
+            show(rt, "line", &Line { key: *key, value })
         }
-        Line::Bad => answer(rt, "bad", 0),
+        _ => Ok(()),
+    }
+}
+
+fn show_row(rt: &impl Print, numbers: &[u64]) -> io::Result<()>
+    requires { length numbers.now ≤ 8 }
+{
+    show(rt, "row", &Row(numbers))
+}
+
+// The numbers of the case in a row, at most eight.
+fn write_row(rt: &impl Print, case: &[u8]) -> io::Result<()> {
+    let mut numbers = [0; 8];
+    let count = (case.len() / 8).min(8);
+    for i in 0..count {
+        numbers[i] = number(&case[i * 8..]);
+    }
+    show_row(rt, &numbers[..count])
+}
+
+// So many digits of a number.
+#[tactic(auto, using(lines::proofs::Laws::fixed_length))]
+fn write_fixed(rt: &impl Print, case: &[u8]) -> io::Result<()> {
+    let Some((digits, number_bytes)) = case.split_first() else {
+        return Ok(());
+    };
+    let fixed = Fixed {
+        number: number(number_bytes),
+        digits: *digits as usize % 21,
+    };
+    show(rt, "fixed", &fixed)
+}
+
+// So many digits are read.
+fn read_fixed(rt: &impl Print, case: &[u8]) -> io::Result<()> {
+    let Some((digits, text)) = case.split_first() else {
+        return answer(rt, "bad", 0);
+    };
+    match reading::fixed(text, *digits as usize % 20) {
+        Some((n, behind)) => {
+            answer(rt, "number", n)?;
+            answer(rt, "behind", case.len().saturating_sub(behind.len()) as u64)
+        }
+        None => answer(rt, "bad", 0),
     }
 }
 
 // The place behind each line.
-fn split(rt: &impl Print, s: &[u8]) -> io::Result<()> {
+fn split(rt: &impl Print, case: &[u8]) -> io::Result<()> {
     let mut at = 0;
-    while at < s.len() {
-        at = splitting::line_end(s, at);
+    while at < case.len() {
+        at = splitting::line_end(case, at);
         answer(rt, "end", at as u64)?;
     }
     answer(rt, "split", at as u64)
 }
 
-fn split_first(rt: &impl Print, bytes: [u8; 512], n: usize) -> io::Result<()>
-    requires { n ≤ 512 }
-{
-    split(rt, &bytes[..n])
-}
-
-fn write_one(rt: &impl Print, bytes: [u8; 512]) -> io::Result<()> {
-    let i = bytes[0] as usize;
-    if i < COUNT {
-        let rows = ROWS;
-        let key = rows[i];
-        let v = Integer {
-            below: bytes[1] == 1,
-            size: number_at(bytes, 2),
-        };
-        let mut out = [b'.'; 200];
-        return write(rt, &mut out, key, v);
+// A letter, and at most 512 bytes in hexadecimal.
+pub fn run(rt: &impl Print, line: &str) -> io::Result<()> {
+    let Some((letter, digits)) = line.as_bytes().split_first() else {
+        return Ok(());
+    };
+    let mut bytes = [0; 512];
+    let n = (digits.len() / 2).min(512);
+    if hex::decode_to_slice(&digits[..2 * n], &mut bytes[..n]).is_err() {
+        return Err(ErrorKind::InvalidData.into());
     }
-    Ok(())
-}
-
-fn fixed(rt: &impl Print, bytes: [u8; 512]) -> io::Result<()> {
-    let digits = bytes[0] as usize % 21;
-    let mut out = [b'.'; 200];
-    write_fixed(rt, &mut out, digits, number_at(bytes, 1))
-}
-
-pub fn run(rt: &impl Print, case: Case) -> io::Result<()> {
-    let n = hexadecimal::count(case);
-    let bytes = case.bytes;
-    let letter = case.letter;
+    let case = &bytes[..n];
     match letter {
-        b'r' => read(rt, bytes, n),
-        b'w' => write_one(rt, bytes),
-        b'd' => write_row(rt, bytes, n),
-        b'f' => fixed(rt, bytes),
-        b'g' => read_fixed(rt, bytes, n, bytes[0] as usize % 20),
-        _ => split_first(rt, bytes, n),
+        b'r' => read(rt, case),
+        b'w' => write(rt, case),
+        b'd' => write_row(rt, case),
+        b'f' => write_fixed(rt, case),
+        b'g' => read_fixed(rt, case),
+        _ => split(rt, case),
     }
 }

@@ -6,34 +6,10 @@
 #![tactic(auto)]
 
 mod commands;
-mod hexadecimal;
 mod table;
 
-use report::streams;
 use std::io;
 
-fn run(rt: &impl Print, line: &[u8]) -> io::Result<()> {
-    let mut c = hexadecimal::begun();
-    let mut i = 0;
-    while i < line.len() {
-        c = hexadecimal::with_digit(c, line[i]);
-        i += 1;
-    }
-    commands::run(rt, c)
-}
-
-fn run_all(rt: &impl Print, input: &[u8]) -> io::Result<()> {
-    let mut at = 0;
-    while at < input.len() {
-        let end = cases::line_end(input, at);
-        run(rt, &input[at..end])?;
-        at = end + 1;
-    }
-    Ok(())
-}
-
 fn main(rt: HostRuntime) -> io::Result<()> {
-    let mut buffer = cases::buffer();
-    let n = streams::read(&mut rt.stdin(), &mut buffer)?;
-    run_all(&rt, &buffer[..n])
+    cases::each_line(&mut rt.stdin(), |line| commands::run(&rt, line))
 }

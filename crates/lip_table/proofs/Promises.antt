@@ -11,7 +11,7 @@ use Rattle.pair.proofs.Laws.{box_wider}
 use Rattle.section.specs.Working.{k}
 use Rattle.section.proofs.Laws.{Rises, k-Rises, k-Inside}
 use Rattle.lip_table.specs.Tables.{entry_count, ratio_of, entry, lower, upper, entry_below, entry_above, ends}
-use Rattle.lip_table.specs.Outcome.{told_with, coefficient_at}
+use Rattle.lip_table.specs.Outcome.{coefficient_at}
 use Rattle.lip_table.specs.Promises.{InRange, ends_of, LookedUp, AtOrBelow, AtOrAbove}
 use Rattle.lip_table.proofs.Told.{below_near, above_near, told_inside, told_outside}
 -- each number of the library's columns is k at its ratio
@@ -46,7 +46,7 @@ module _ {a b : ℕ} (ha : InRange a) (hb : InRange b) (ab : a ≤ b) {m : ℕ} 
 
   -- so it is for a q of more than six places, and for one that is worked as a pair
   pub looked_up_between : Inside m (k m q) ((coefficient_at a).lower to (coefficient_at b).upper)
-  unfolding ends told_with
+  unfolding ends
   looked_up_between = rw (told_inside a ha.least ha.most, told_inside b hb.least hb.most) between_entries
 
 module _ (ratio : ℕ) where
@@ -57,14 +57,12 @@ module _ (ratio : ℕ) where
 
     -- a ratio in the range: k lies between the ends that are told, worked at 1,000,000 and at every whole multiple
     pub looked_up : LookedUp ratio (coefficient_at ratio)
-    unfolding told_with
     looked_up =
         rw (told_inside ratio h.least h.most)
         (record { accepted = (refl, refl, refl); told = refl; own = rw (mul-one ratio) at (finer_between 1 (lit< tt)); finer = finer_between })
 
   -- any other number: 16, and all else 0
   pub lookup_refused : (InRange ratio → ⊥) → coefficient_at ratio ≡ record { refusal = 16; line = 0; length = 0; lower = 0; upper = 0 }
-  unfolding told_with
   lookup_refused n = told_outside ratio (λ h. n (record { least = h.0; most = h.1 }))
 
 -- at the ratio of an entry both ends are its own
@@ -77,5 +75,5 @@ unfolding ratio_of
 own_above i = omega (arith, above_near (ratio_of i))
 
 pub lookup_at_entry : (i : ℕ) → i < entry_count → ends_of (coefficient_at (ratio_of i)) ≡ entry i
-unfolding ratio_of ends told_with
+unfolding ratio_of ends
 lookup_at_entry i h = ap ends_of (told_inside (ratio_of i) (omega arith) (omega arith)) ∙ rw (own_below i, own_above i)

@@ -1,20 +1,21 @@
 -- What a lookup answers, within the table's ratios and outside them.
 use Prim.Native.Nat.{ℕ, ◌+◌, ◌-◌, ◌*◌, ◌/◌, ◌≤◌, ◌<◌}
 use mathlib.Core.Logic.{inl}
-use mathlib.Core.Path.{◌≡◌, refl, ap}
+use mathlib.Core.Path.{◌≡◌, refl, sym, ap}
 use native.Mathlib.Omega.{arith}
 use lib.Dec.{lit<}
 use lib.ListN.{get_or}
 use Rattle.pair.proofs.Numbers.{ceil_le, le_ceil}
-use Rattle.questions.specs.declared.Answer.{Answer}
+use Rattle.std.specs.Prelude.{Result, Ok, Err}
+use Rattle.questions.specs.Asking.{first_of}
 use Rattle.questions.specs.Answers.{answer}
 use Rattle.questions.proofs.Laws.{met_when_all, refused_when_no}
-use Rattle.lip_table.specs.declared.Coefficient.{Coefficient}
 use Rattle.lip_table.specs.declared.entries.Columns.{Columns}
+use Rattle.lip_table.specs.declared.LipRefusal.{LipRefusal}
 use Rattle.lip_table.specs.declared.LipRefusal.TheVariants.{Ratio}
-use Rattle.lip_table.specs.Tables.{least_ratio, most_ratio, step, entry_below, entry_above, ends}
+use Rattle.lip_table.specs.Tables.{least_ratio, most_ratio, step, entry_count, entry_below, entry_above, ends}
 use Rattle.lip_table.specs.Forms.{table_columns}
-use Rattle.lip_table.specs.Outcome.{lip_answer, question16, told_with, told, coefficient_at}
+use Rattle.lip_table.specs.Outcome.{lip_answer, question16, told_with, told, ends_if, found_ends, coefficient_at}
 use Rattle.lip_table.proofs.Places.{lower_at, upper_at}
 
 module _ (ratio : ℕ) where
@@ -30,16 +31,41 @@ module _ (ratio : ℕ) where
       let most = ceil_le {n = n} {d = step} {x = (n + 999) / step} (lit< tt) (omega arith) in
       (omega (arith, le_ceil {n = n} {d = step} (lit< tt)), omega (arith, most))
 
+  found_inside : least_ratio ≤ ratio → ratio ≤ most_ratio → first_of (question16 ratio) ≡ Ok tt
+  found_inside l h = met_when_all (question16 ratio) ((l, h), tt)
+
+  found_outside : ((least_ratio ≤ ratio) × (ratio ≤ most_ratio) → ⊥) → first_of (question16 ratio) ≡ Err Ratio
+  found_outside n = refused_when_no (question16 ratio) Ratio (inl (n, refl))
+
   pub told_inside : least_ratio ≤ ratio → ratio ≤ most_ratio → coefficient_at ratio ≡ told_with (answer 0 0 0) (ends ratio).lo (ends ratio).hi
-  unfolding question16 told coefficient_at
-  told_inside l h = ap (told ratio) (met_when_all (question16 ratio) ((l, h), tt))
+  unfolding told coefficient_at
+  told_inside l h = ap (told ratio) (found_inside l h)
 
   pub told_outside : ((least_ratio ≤ ratio) × (ratio ≤ most_ratio) → ⊥) → coefficient_at ratio ≡ told_with (lip_answer Ratio) 0 0
-  unfolding question16 told coefficient_at
-  told_outside n = ap (told ratio) (refused_when_no (question16 ratio) Ratio (inl (n, refl)))
+  unfolding told coefficient_at
+  told_outside n = ap (told ratio) (found_outside n)
 
-  -- by the library's columns, at the places of these entries
-  pub told_by : {t : Columns} {c : Coefficient} {x : Answer} {below above : ℕ} → t ≡ table_columns → c ≡ told_with x (get_or t.lower below 0) (get_or t.upper above 0) → x ≡ answer 0 0 0
-      → below ≡ entry_below ratio → above ≡ entry_above ratio → least_ratio ≤ ratio → ratio ≤ most_ratio → c ≡ coefficient_at ratio
+  -- by the code's columns, at the places of these entries, the question being met
+  pub ends_found : {t : Columns} {below above : ℕ} → least_ratio ≤ ratio → ratio ≤ most_ratio → t ≡ table_columns → below ≡ entry_below ratio → above ≡ entry_above ratio
+      → below < entry_count → above < entry_count → Ok (get_or t.lower below 0, get_or t.upper above 0) ≡ found_ends ratio
   unfolding ends
-  told_by {below = below} {above = above} e r x eb ea l h = cc (r, x, lower_at e below (omega (arith, below_near)), upper_at e above (omega (arith, above_near)), told_inside l h)
+  ends_found {t} {below} {above} l h e eb ea b a = rw (found_inside l h, lower_at e below b, upper_at e above a, eb, ea)
+
+  -- the answer that goes with the ends, or with the refusal
+  by_found : (f : Result Unit LipRefusal) {p : ℕ × ℕ} → ends_if f ratio ≡ Ok p → told_with (answer 0 0 0) p.0 p.1 ≡ told ratio f
+  unfolding told
+  by_found (Ok u) {p} e = let w : ((ends ratio).lo, (ends ratio).hi) ≡ p = cc in ap (λ (x : ℕ × ℕ). told_with (answer 0 0 0) x.0 x.1) (sym w)
+  by_found (Err r) e = cc
+
+  by_refused : (f : Result Unit LipRefusal) {r : LipRefusal} → ends_if f ratio ≡ Err r → told_with (lip_answer r) 0 0 ≡ told ratio f
+  unfolding told
+  by_refused (Ok u) e = cc
+  by_refused (Err s) e = cc
+
+  pub told_of_ends : {p : ℕ × ℕ} → found_ends ratio ≡ Ok p → told_with (answer 0 0 0) p.0 p.1 ≡ coefficient_at ratio
+  unfolding coefficient_at
+  told_of_ends e = by_found (first_of (question16 ratio)) e
+
+  pub told_of_refusal : {r : LipRefusal} → found_ends ratio ≡ Err r → told_with (lip_answer r) 0 0 ≡ coefficient_at ratio
+  unfolding coefficient_at
+  told_of_refusal e = by_refused (first_of (question16 ratio)) e

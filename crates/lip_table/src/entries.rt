@@ -53,7 +53,7 @@ const UPPER: [u32; ENTRIES] = [
 ];
 
 // The table by columns.
-#[derive(Clone, Copy)]
+#[derive(Clone, Copy, Debug, PartialEq, Eq)]
 pub struct Columns {
     pub lower: [u32; ENTRIES],
     pub upper: [u32; ENTRIES],

@@ -19,7 +19,7 @@ const ENTRIES: usize = 251;
 pub const TABLE_LENGTH: usize = 3_514;
 
 // Why no coefficient is told, or no table written.
-#[derive(Clone, Copy)]
+#[derive(Clone, Copy, Debug, PartialEq, Eq)]
 pub enum LipRefusal {
     // 16: the ratio is outside 0.350 to 0.600
     Ratio,
@@ -30,7 +30,7 @@ pub enum LipRefusal {
 // What a lookup answers: the refusal's number or 0, a line, a length (both always 0), and the ends in
 // millionths.
 #[repr(C)]
-#[derive(Clone, Copy)]
+#[derive(Clone, Copy, Debug, PartialEq, Eq)]
 pub struct Coefficient {
     pub refusal: u64,
     pub line: u64,

@@ -1,10 +1,11 @@
 // The lookup of a coefficient in the table. (docs/WORKING.md, 15.2.)
 ghost use Rattle.std.specs.Prelude.{◌≡◌};
-ghost use Rattle.lip_table.specs.declared.LipRefusal.TheVariants.{Ratio};
-ghost use Rattle.lip_table.specs.Outcome.{lip_answer, told_with, coefficient_at};
+ghost use Rattle.lip_table.specs.Outcome.{told_with, found_ends, coefficient_at};
 
-use crate::{Coefficient, LEAST_RATIO, LipRefusal, MOST_RATIO, STEP, entries, refusals};
-use questions::{Answer, answers};
+use crate::{Coefficient, LEAST_RATIO, LipRefusal, MOST_RATIO, STEP, entries};
+use questions::Answer;
+use questions::answers::{Reason, answer};
+use questions::asking::ask;
 
 // An answer with the two ends.
 fn told_with(answer: Answer, lower: u64, upper: u64) -> Coefficient
@@ -19,29 +20,31 @@ fn told_with(answer: Answer, lower: u64, upper: u64) -> Coefficient
     }
 }
 
-// Question 16: no ends are told for a ratio outside the table.
-fn outside() -> Coefficient
-    ensures { result ≡ told_with (lip_answer Ratio) 0 0 }
-{
-    told_with(refusals::lip_answer(LipRefusal::Ratio), 0, 0)
-}
-
 // For a ratio in millionths: the lower end of the entry at or below it, the upper end of the entry at
-// or above it.
-pub fn coefficient(ratio: u64) -> Coefficient
-    ensures { result ≡ coefficient_at ratio }
+// or above it. Question 16: there are none for a ratio outside the table.
+#[tactic(auto, unfolding(questions::specs::Asking::first_of))]
+fn ends(ratio: u64) -> Result<(u64, u64), LipRefusal>
+    ensures { result ≡ found_ends ratio }
 {
-    if ratio < LEAST_RATIO {
-        return outside();
-    }
-    if MOST_RATIO < ratio {
-        return outside();
-    }
+    ask(
+        LEAST_RATIO <= ratio && ratio <= MOST_RATIO,
+        LipRefusal::Ratio,
+    )?;
     let past = ratio - LEAST_RATIO;
     let below = past / STEP;
-    let above = (past + (STEP - 1)) / STEP;
+    let above = past.div_ceil(STEP);
     let table = entries::table();
     let lower = table.lower[below as usize];
     let upper = table.upper[above as usize];
-    told_with(answers::answer(0, 0, 0), lower as u64, upper as u64)
+    Ok((lower as u64, upper as u64))
+}
+
+// The same as an answer, whose ends are 0 where the ratio is refused.
+pub fn coefficient(ratio: u64) -> Coefficient
+    ensures { result ≡ coefficient_at ratio }
+{
+    match ends(ratio) {
+        Ok((lower, upper)) => told_with(answer(0, 0, 0), lower, upper),
+        Err(reason) => told_with(reason.told(), 0, 0),
+    }
 }

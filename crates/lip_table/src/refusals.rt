@@ -1,17 +1,20 @@
 // What is answered where there is no coefficient or no table.
 ghost use Rattle.std.specs.Prelude.{◌≡◌};
-ghost use Rattle.lip_table.specs.Outcome.{lip_answer};
+ghost use Rattle.lip_table.specs.Outcome.{lip_answer, lip_laws};
 
 use crate::LipRefusal;
 use questions::Answer;
-use questions::answers::answer;
+use questions::answers::{Reason, answer};
 
-// The number, the line and the length of a refusal.
-pub fn lip_answer(r: LipRefusal) -> Answer
-    ensures { result ≡ lip_answer r }
-{
-    match r {
-        LipRefusal::Ratio => answer(16, 0, 0),
-        LipRefusal::Room(length) => answer(12, 0, length),
+impl Reason for LipRefusal {
+    ghost told = { lip_answer };
+
+    ghost laws = { lip_laws };
+
+    fn told(self) -> Answer {
+        match self {
+            LipRefusal::Ratio => answer(16, 0, 0),
+            LipRefusal::Room(length) => answer(12, 0, length),
+        }
     }
 }

@@ -1,43 +1,59 @@
 // The table as text. (docs/WORKING.md, 15.2.)
 ghost use Rattle.std.specs.Prelude.{◌≡◌};
-ghost use Rattle.questions.specs.Outcomes.{answer_in, buffer_in};
-ghost use Rattle.lines.specs.Splitting.{joined};
-ghost use Rattle.lip_table.specs.Tables.{table};
+ghost use Rattle.questions.specs.Outcomes.{answer_in, length_in, buffer_in};
+ghost use Rattle.lip_table.specs.declared.LipRefusal.TheVariants.{Room};
+ghost use Rattle.lip_table.specs.Tables.{table_text};
 ghost use Rattle.lip_table.specs.Outcome.{lip_answer, table_outcome};
 
-use crate::{ENTRIES, LipRefusal, TABLE_LENGTH, entries, refusals};
-use lines::rows;
-use questions::{Answer, answers};
+use crate::{LipRefusal, TABLE_LENGTH, entries};
+use lines::rows::Row;
+use lines::texts;
+use lines::texts::{Text, TooShort};
+use questions::Answer;
+use questions::answers::answered;
 
-// A line has two numbers.
-const COLUMNS: usize = 2;
+// The table's text: for each entry a line with its two ends.
+#[derive(Clone, Copy, Debug, PartialEq, Eq)]
+struct Table;
 
-// The table's numbers, line by line.
-fn numbers() -> [u64; ENTRIES * COLUMNS]
-    ensures { result ≡ joined table }
-{
-    let table = entries::table();
-    let mut numbers = [0u64; ENTRIES * COLUMNS];
-    let mut i = 0;
-    while i < ENTRIES {
-        let at = i * COLUMNS;
-        let next = at + 1;
-        numbers[at] = table.lower[i] as u64;
-        numbers[next] = table.upper[i] as u64;
-        i += 1;
+impl Text for Table {
+    ghost bytes = { λ t. table_text };
+
+    #[tactic(auto, using(crate::proofs::TableTexts::table_length_lem))]
+    fn length(&self) -> usize {
+        TABLE_LENGTH
     }
-    numbers
+
+    fn put(&self, out: &mut [u8]) -> usize {
+        let table = entries::table();
+        let mut at = 0;
+        for (lower, upper) in table.lower.iter().zip(&table.upper) {
+            at = texts::put_behind(out, at, &Row(&[*lower as u64, *upper as u64]));
+        }
+        at
+    }
 }
 
-// Question 12: the table is written if it fits the buffer.
+impl From<TooShort> for LipRefusal {
+    ghost from_gives = { λ short r. r ≡ Room short.0 };
+
+    fn from(short: TooShort) -> LipRefusal {
+        LipRefusal::Room(short.0 as u64)
+    }
+}
+
+// Question 12: the table is written if it fits the buffer; answers its length.
+fn put(buffer: &mut [u8]) -> Result<usize, LipRefusal>
+    ensures value { result ≡ length_in table_outcome buffer.old }
+    ensures buffer_after { buffer.new ≡ buffer_in table_outcome buffer.old }
+{
+    Ok(texts::write_fitted(&Table, TABLE_LENGTH, buffer)?)
+}
+
+// The table, into the buffer.
 pub fn write(buffer: &mut [u8]) -> Answer
     ensures value { result ≡ answer_in lip_answer table_outcome buffer.old }
     ensures buffer_after { buffer.new ≡ buffer_in table_outcome buffer.old }
 {
-    if buffer.len() < TABLE_LENGTH {
-        return refusals::lip_answer(LipRefusal::Room(TABLE_LENGTH as u64));
-    }
-    let numbers = numbers();
-    let n = rows::put_rows(buffer, &numbers, COLUMNS);
-    answers::answer(0, 0, n as u64)
+    answered(put(buffer))
 }

@@ -1,14 +1,18 @@
 -- Laws of the integers' order, of products, and of the smaller and the larger of two.
-use mathlib.Core.Path.{◌≡◌, ap}
+use mathlib.Core.Path.{◌≡◌, sym, ap}
 use mathlib.Core.Bool.{true, false, cond}
 use Prim.Native.Nat.{ℕ, suc, ◌+◌, ◌*◌, ◌≤◌, ◌<◌}
-use native.Mathlib.Nat.{le_of_lt, mul_comm, mul-le-mul_right, le_of_mul-le-mul_right}
+use native.Mathlib.Nat.{add-zero, le_of_lt, mul_comm, mul-le-mul_right, le_of_mul-le-mul_right}
 use native.Mathlib.Omega.{arith}
-use borrow.Author.Tests.{leb-true, leb-false, le-leb}
+use borrow.Author.Tests.{leb-true, leb-false, le-leb, lt-leb}
 use lib.Signed.{◌≤ℤ◌}
+use lib.Dec.{leb}
+use Rattle.std.specs.Int.Signed.{le_z}
+use Rattle.std.specs.Int.{int_min, int_max}
+use Rattle.std.proofs.lemmas.Int.{ints, clamps}
 use mathlib.Core.Logic.{◌↔◌}
 use borrow.Author.Differences.{le_in, le_T}
-use lib.IntN.{ℤ, pos, negsuc, neg_ℤ, sub_ℕ, ◌+ℤ◌, ◌*ℤ◌, *ℤ-negsuc, *ℤ_comm}
+use lib.IntN.{ℤ, pos, negsuc, neg_ℤ, sub_ℕ, ◌+ℤ◌, ◌-ℤ◌, ◌*ℤ◌, *ℤ-negsuc, *ℤ_comm}
 use Rattle.pair.specs.Integers.{above, below, ◌≼ℤ◌, leb_ℤ, least, greatest}
 use Rattle.pair.proofs.Tests.{by_test}
 use Rattle.pair.proofs.IntegerParts.{sub_parts, neg_above, neg_below, plus_parts, scaled_above, scaled_below, times_parts}
@@ -46,6 +50,17 @@ pub le-leb_ℤ : (x y : ℤ) → x ≼ℤ y → leb_ℤ x y ≡ true
 unfolding leb_ℤ
 le-leb_ℤ x y h = le-leb _ _ h.order
 
+-- and its test that of the standard library
+pub le_z-leb_ℤ : (x y : ℤ) → le_z x y ≡ leb_ℤ x y
+unfolding leb_ℤ
+le_z-leb_ℤ (pos a) (pos b) = rw (add-zero a, add-zero b)
+le_z-leb_ℤ (pos a) (negsuc b) = sym (lt-leb (a + suc b) 0 (omega arith))
+le_z-leb_ℤ (negsuc a) (pos b) = sym (le-leb 0 (b + suc a) (omega arith))
+le_z-leb_ℤ (negsuc a) (negsuc b) =
+    by_test (leb b a) (λ t. t ≡ leb (0 + suc b) (0 + suc a))
+    (λ e. sym (le-leb _ _ (omega (arith, leb-true b a e))))
+    (λ e. sym (lt-leb _ _ (omega (arith, leb-false b a e))))
+
 pub neg_le : {x y : ℤ} → x ≼ℤ y → neg_ℤ y ≼ℤ neg_ℤ x
 neg_le {x} {y} h = omega (arith, neg_above x, neg_below x, neg_above y, neg_below y)
 
@@ -54,9 +69,6 @@ pos-le h = omega arith
 
 pub neg_pos-le : {n m : ℕ} → n ≤ m → neg_ℤ (pos m) ≼ℤ neg_ℤ (pos n)
 neg_pos-le h = neg_le (pos-le h)
-
-pub sub_le : {a a' b b' : ℕ} → a ≤ a' → b' ≤ b → sub_ℕ a b ≼ℤ sub_ℕ a' b'
-sub_le {a} {a'} {b} {b'} h k = omega (arith, sub_parts a b, sub_parts a' b')
 
 pub plus_le : {x x' y y' : ℤ} → x ≼ℤ x' → y ≼ℤ y' → x +ℤ y ≼ℤ x' +ℤ y'
 plus_le {x} {x'} {y} {y'} h k = omega (arith, plus_parts x y, plus_parts x' y')
@@ -71,6 +83,9 @@ scaled_cancel {n} {x} {y} n⁺ h =
 
 pub by_parts : (x y : ℤ) → above x + below y ≡ above y + below x → x ≡ y
 by_parts x y e = le_antisym_ℤ (omega arith) (omega arith)
+
+pub sub_is : (a b : ℕ) → pos a -ℤ pos b ≡ sub_ℕ a b
+sub_is a b = by_parts _ _ (omega (arith, sub_parts a b, plus_parts (pos a) (neg_ℤ (pos b)), neg_above (pos b), neg_below (pos b)))
 
 times-eq : (n : ℕ) {a b : ℕ} → a ≡ b → a * n ≡ b * n
 times-eq n e = ap (λ (t : ℕ). t * n) e
@@ -92,11 +107,6 @@ scaled_product x y m n =
 
 pub neg_scaled : (n d : ℕ) → neg_ℤ (pos n) *ℤ pos d ≡ neg_ℤ (pos (n * d))
 neg_scaled n d = by_parts _ _ (simp (scaled_above, scaled_below, neg_above, neg_below) (omega arith))
-
-pub sub_scaled : (a b n : ℕ) → sub_ℕ a b *ℤ pos n ≡ sub_ℕ (a * n) (b * n)
-sub_scaled a b n =
-    by_parts _ _
-    (simp (scaled_above, scaled_below) (omega (arith, times-eq n (sub_parts a b), sub_parts (a * n) (b * n))))
 
 pub plus_scaled : (x y : ℤ) (n : ℕ) → (x +ℤ y) *ℤ pos n ≡ x *ℤ pos n +ℤ y *ℤ pos n
 plus_scaled x y n =
@@ -163,8 +173,24 @@ least_first {x} {y} h = le_antisym_ℤ (le-least (le_refl_ℤ x) h) (least_left 
 pub least_second : {x y : ℤ} → y ≼ℤ x → y ≡ least x y
 least_second {x} {y} h = le_antisym_ℤ (le-least h (le_refl_ℤ y)) (least_right x y)
 
-pub greatest_first : {x y : ℤ} → y ≼ℤ x → x ≡ greatest x y
-greatest_first {x} {y} h = le_antisym_ℤ (greatest_left x y) (greatest-le (le_refl_ℤ x) h)
+-- they are those of the standard library
 
-pub greatest_second : {x y : ℤ} → x ≼ℤ y → y ≡ greatest x y
-greatest_second {x} {y} h = le_antisym_ℤ (greatest_right x y) (greatest-le h (le_refl_ℤ y))
+pub min_is_least : (x y : ℤ) → int_min x y ≡ least x y
+unfolding least
+min_is_least x y = by_test (leb_ℤ x y) (λ t. int_min x y ≡ cond t x y) (λ e. min_first x y (leb_ℤ-true x y e)) (λ e. min_second x y (leb_ℤ-false x y e))
+  where
+    min_first : (x y : ℤ) → x ≼ℤ y → int_min x y ≡ x
+    min_first x y h = let k : x ≤ℤ y = (order_is_std x y).0 h in omega (arith, ints, clamps)
+
+    min_second : (x y : ℤ) → y ≼ℤ x → int_min x y ≡ y
+    min_second x y h = let k : y ≤ℤ x = (order_is_std y x).0 h in omega (arith, ints, clamps)
+
+pub max_is_greatest : (x y : ℤ) → int_max x y ≡ greatest x y
+unfolding greatest
+max_is_greatest x y = by_test (leb_ℤ x y) (λ t. int_max x y ≡ cond t y x) (λ e. max_second x y (leb_ℤ-true x y e)) (λ e. max_first x y (leb_ℤ-false x y e))
+  where
+    max_first : (x y : ℤ) → y ≼ℤ x → int_max x y ≡ x
+    max_first x y h = let k : y ≤ℤ x = (order_is_std y x).0 h in omega (arith, ints, clamps)
+
+    max_second : (x y : ℤ) → x ≼ℤ y → int_max x y ≡ y
+    max_second x y h = let k : x ≤ℤ y = (order_is_std x y).0 h in omega (arith, ints, clamps)

@@ -1,12 +1,15 @@
 -- Rounding of integers toward minus and plus infinity: the largest integer whose d-fold is at most z, and the smallest whose d-fold is at least z.
-use mathlib.Core.Path.{◌≡◌}
-use Prim.Native.Nat.{ℕ, suc, ◌*◌, ◌/◌, ◌≤◌, ◌<◌}
-use native.Mathlib.Nat.{div-mul-le_self}
+use mathlib.Core.Path.{◌≡◌, refl}
+use mathlib.Core.Bool.{true, false, beq}
+use Prim.Native.Nat.{ℕ, zero, suc, ◌*◌, ◌/◌, ◌≤◌, ◌<◌}
+use native.Mathlib.Nat.{div-mul-le_self, zero-div}
 use native.Mathlib.Omega.{arith}
-use lib.IntN.{ℤ, pos, negsuc, ◌*ℤ◌}
+use Rattle.std.proofs.lemmas.Int.{ints, to_z-of_z, to_z_pos}
+use lib.IntN.{ℤ, pos, negsuc, neg_ℤ, nat_abs, ◌*ℤ◌}
+use lib.Signed.{lt_z}
 use Rattle.pair.specs.Rounding.{ceil_div}
 use Rattle.pair.specs.Integers.{◌≼ℤ◌, least, floor_over, ceil_over}
-use Rattle.pair.proofs.Quotients.{ceil_le, le_ceil, le_floor}
+use Rattle.pair.proofs.Quotients.{ceil_le, le_ceil, le_floor, floor_le_ceil}
 use Rattle.pair.proofs.IntegerParts.{neg_above, neg_below}
 use Rattle.pair.proofs.IntegerLaws.{le_trans_ℤ, le_antisym_ℤ, neg_pos-le, scaled_le, scaled_cancel, scaled_scaled, neg_scaled, of_least, least_left, least_right, le-least}
 
@@ -57,3 +60,34 @@ floor_least x y {d} d⁺ =
     le_antisym_ℤ
     (of_least (λ w. least (floor_over x d) (floor_over y d) ≼ℤ floor_over w d) x y (least_left _ _) (least_right _ _))
     (le-least (floor_mono_ℤ d⁺ (least_left x y)) (floor_mono_ℤ d⁺ (least_right x y)))
+
+-- by size and sign
+
+up_zero : {d : ℕ} → 0 < d → ceil_div 0 d ≡ 0
+up_zero {d} d⁺ = omega (arith, ceil_le {n = 0} {x = 0} d⁺ (omega arith))
+
+pub floor_neg : (n : ℕ) {d : ℕ} → 0 < d → floor_over (neg_ℤ (pos n)) d ≡ neg_ℤ (pos (ceil_div n d))
+unfolding floor_over
+floor_neg zero {d} d⁺ = rw (zero-div d, up_zero d⁺)
+floor_neg (suc n) d⁺ = refl
+
+like_product : (a b : ℤ) → beq (lt_z a (pos 0)) (lt_z b (pos 0)) ≡ true → a *ℤ b ≡ pos (nat_abs a * nat_abs b)
+like_product (pos a) (pos b) e = refl
+like_product (pos a) (negsuc b) e = grind (arith, ints)
+like_product (negsuc a) (pos b) e = grind (arith, ints)
+like_product (negsuc a) (negsuc b) e = refl
+
+unlike_product : (a b : ℤ) → beq (lt_z a (pos 0)) (lt_z b (pos 0)) ≡ false → a *ℤ b ≡ neg_ℤ (pos (nat_abs a * nat_abs b))
+unlike_product (pos a) (pos b) e = grind (arith, ints)
+unlike_product (pos a) (negsuc b) e = refl
+unlike_product (negsuc a) (pos b) e = refl
+unlike_product (negsuc a) (negsuc b) e = grind (arith, ints)
+
+pub floor_like : (a b : ℤ) (d : ℕ) → beq (lt_z a (pos 0)) (lt_z b (pos 0)) ≡ true → pos (nat_abs a * nat_abs b / d) ≡ floor_over (a *ℤ b) d
+unfolding floor_over
+floor_like a b d e = rw (like_product a b e)
+
+pub floor_unlike : (a b : ℤ) (d : ℕ) → 0 < d → beq (lt_z a (pos 0)) (lt_z b (pos 0)) ≡ false → neg_ℤ (pos (ceil_div (nat_abs a * nat_abs b) d)) ≡ floor_over (a *ℤ b) d
+floor_unlike a b d d⁺ e = rw (unlike_product a b e, floor_neg (nat_abs a * nat_abs b) d⁺)
+
+pub ruleset by_sign = (to_z-of_z, to_z_pos, floor_le_ceil, floor_like, floor_unlike)

@@ -1,8 +1,8 @@
 pub mod Tests
 pub mod Quotients
-pub mod Splits
 pub mod Powers
 pub mod Extraction
+pub mod Steps
 pub mod Digits
 pub mod UpperRoot
 pub mod ScaledRoot
@@ -15,7 +15,6 @@ pub mod Bounds
 pub mod IntegerParts
 pub mod IntegerLaws
 pub mod IntegerRounding
-pub mod IntegerForms
 pub mod Opposites
 pub mod SignedLaws
 pub mod SignedProducts

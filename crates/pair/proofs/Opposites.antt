@@ -1,20 +1,18 @@
 -- The other side of zero: rounding up, the larger of two and the greatest product are rounding down, the smaller and the least product there.
-use mathlib.Core.Path.{◌≡◌, refl, ap, ap₂, ◌∙◌}
+use mathlib.Core.Path.{◌≡◌, refl, sym, ap, ap₂, ◌∙◌}
 use Prim.Native.Nat.{ℕ, zero, suc, ◌<◌}
 use native.Mathlib.Nat.{zero-div}
 use native.Mathlib.Omega.{arith}
-use lib.IntN.{ℤ, pos, negsuc, neg_ℤ, neg_ℤ-neg_ℤ, ◌*ℤ◌}
+use lib.IntN.{ℤ, pos, negsuc, neg_ℤ, neg_ℤ-neg_ℤ, nat_abs, ◌-ℤ◌, ◌*ℤ◌}
+use Rattle.std.proofs.lemmas.Int.{to_z-of_z, fits_signed_from_abs}
 use Rattle.pair.specs.Rounding.{ceil_div}
 use Rattle.pair.specs.Integers.{◌≼ℤ◌, least, greatest, floor_over, ceil_over}
-use Rattle.pair.specs.SignedPairs.{SignedPair, ◌upto◌, least_product, greatest_product, signed_times}
+use Rattle.pair.specs.SignedPairs.{SignedPair, opposite, least_product, greatest_product, signed_times, signed_over}
+use Rattle.pair.specs.declared.Pair.{Pair}
 use Rattle.pair.specs.Enclosure.{SignedInside, SignedBetween, SignedOrdered}
 use Rattle.pair.proofs.Quotients.{ceil_le}
-use Rattle.pair.proofs.IntegerParts.{neg_above, neg_below, times_parts}
+use Rattle.pair.proofs.IntegerParts.{neg_above, neg_below, plus_parts, times_parts, neg_size}
 use Rattle.pair.proofs.IntegerLaws.{by_parts, le_antisym_ℤ, neg_le, least_left, least_right, le-least, greatest_left, greatest_right, greatest-le}
-
--- −a: the ends change places
-unfoldable pub opposite : SignedPair → SignedPair
-opposite a = neg_ℤ a.hi upto neg_ℤ a.lo
 
 pub neg_product : (x y : ℤ) → neg_ℤ x *ℤ y ≡ neg_ℤ (x *ℤ y)
 neg_product x y =
@@ -26,6 +24,20 @@ unfolding floor_over ceil_over
 ceil_opposite (pos zero) {d} d⁺ = let none : ceil_div 0 d ≡ 0 = omega (arith, ceil_le {n = 0} {x = 0} d⁺ (omega arith)) in rw (zero-div d, none)
 ceil_opposite (pos (suc n)) d⁺ = neg_ℤ-neg_ℤ _
 ceil_opposite (negsuc n) d⁺ = refl
+
+-- −x, as it is worked
+pub zero_less : (x : ℤ) → pos 0 -ℤ x ≡ neg_ℤ x
+zero_less x = by_parts _ _ (omega (arith, plus_parts (pos 0) (neg_ℤ x)))
+
+pub ceil_by_floor : (a b : ℤ) (d : ℕ) → 0 < d → pos 0 -ℤ floor_over ((pos 0 -ℤ a) *ℤ b) d ≡ ceil_over (a *ℤ b) d
+ceil_by_floor a b d d⁺ = rw (zero_less, zero_less a, neg_product a b) (ceil_opposite (a *ℤ b) d⁺)
+
+pub zero_less_size : (x : ℤ) → nat_abs (pos 0 -ℤ x) ≡ nat_abs x
+zero_less_size x = rw zero_less (neg_size x)
+
+pub ruleset zero_less_steps = (to_z-of_z, zero_less, zero_less_size, fits_signed_from_abs)
+
+pub ruleset by_opposite = (to_z-of_z, zero_less_size, fits_signed_from_abs, ceil_by_floor)
 
 over_zero : {x y : ℤ} → x ≼ℤ neg_ℤ y → y ≼ℤ neg_ℤ x
 over_zero {x} {y} h = omega (arith, neg_above x, neg_below x, neg_above y, neg_below y)
@@ -52,6 +64,18 @@ product_opposite a b = ap₂ least (end a.hi) (end a.lo) ∙ least_opposite _ _ 
 pub times_opposite : {s : ℕ} (a b : SignedPair) → 0 < s → neg_ℤ (signed_times s (opposite a) b).lo ≡ (signed_times s a b).hi
 unfolding signed_times
 times_opposite {s} a b s⁺ = ap (λ (z : ℤ). neg_ℤ (floor_over z s)) (product_opposite a b) ∙ ceil_opposite _ s⁺
+
+pub over_opposite : (s : ℕ) (a : SignedPair) (q : Pair) → 0 < q.lo → 0 < q.hi → neg_ℤ (signed_over s (opposite a) q).lo ≡ (signed_over s a q).hi
+unfolding signed_over opposite
+over_opposite s a q lo⁺ hi⁺ =
+    neg_least _ _ ∙ ap₂ greatest (end lo⁺) (end hi⁺)
+  where
+    neg_least : (x y : ℤ) → neg_ℤ (least x y) ≡ greatest (neg_ℤ x) (neg_ℤ y)
+    neg_least x y =
+        ap neg_ℤ (ap₂ least (sym (neg_ℤ-neg_ℤ x)) (sym (neg_ℤ-neg_ℤ y)) ∙ least_opposite (neg_ℤ x) (neg_ℤ y)) ∙ neg_ℤ-neg_ℤ _
+
+    end : {d : ℕ} → 0 < d → neg_ℤ (floor_over (neg_ℤ a.hi *ℤ pos s) d) ≡ ceil_over (a.hi *ℤ pos s) d
+    end d⁺ = rw neg_product (ceil_opposite (a.hi *ℤ pos s) d⁺)
 
 pub opposite_between : {m : ℕ} {x : ℤ} {a : SignedPair} → SignedBetween m x a → SignedBetween m (neg_ℤ x) (opposite a)
 unfolding opposite

@@ -27,10 +27,10 @@ module _ {p : Pair} {n d N D : ℕ} {r : Pair} (o : Outward p n d N D r) where
   pub outward_is : {x : Pair} → x.lo ≡ p.lo * n / d → x.hi ≡ ceil_div (p.hi * N) D → x ≡ r
   outward_is e f = λ i. record { lo = (e ∙ o.low) i; hi = (f ∙ o.high) i }
 
-pub times-Outward : (s : ℕ) (p q : Pair) → times_fits s p q ≡ true → Outward p q.lo s q.hi s (times s p q)
+pub times_outward : (s : ℕ) (p q : Pair) → times_fits s p q ≡ true → Outward p q.lo s q.hi s (times s p q)
 unfolding times
-times-Outward s p q e = let fit = times_out s p q e in record { low⁺ = fit.0; high⁺ = fit.0; low = refl; high = refl; fits = fit.1 }
+times_outward s p q e = let fit = times_out s p q e in record { low⁺ = fit.0; high⁺ = fit.0; low = refl; high = refl; fits = fit.1 }
 
-pub over-Outward : (s : ℕ) (p q : Pair) → over_fits s p q ≡ true → Outward p s q.hi s q.lo (over s p q)
+pub over_outward : (s : ℕ) (p q : Pair) → over_fits s p q ≡ true → Outward p s q.hi s q.lo (over s p q)
 unfolding over
-over-Outward s p q e = let fit = over_out s p q e in record { low⁺ = fit.1; high⁺ = fit.0; low = refl; high = refl; fits = fit.2 }
+over_outward s p q e = let fit = over_out s p q e in record { low⁺ = fit.1; high⁺ = fit.0; low = refl; high = refl; fits = fit.2 }

@@ -1,10 +1,11 @@
 -- Quotients rounded down and up: each is the largest or the least number with a property, and how two of them compare.
-use mathlib.Core.Path.{◌≡◌, ap₂, ◌∙◌}
-use Prim.Native.Nat.{ℕ, zero, suc, ◌+◌, ◌-◌, ◌*◌, ◌/◌, ◌≤◌, ◌<◌, min}
-use native.Mathlib.Nat.{le_refl, le_antisymm, le_of_suc-le-suc, suc-mul, mul_comm, mul-sub, mul-pos, mul-le-mul_right, le_of_mul-le-mul_right, div-mul-le_self, le-div_iff_mul-le, div-lt_iff_lt-mul, lt-div-mul-add, min-le_left, min-le_right}
+use mathlib.Core.Path.{◌≡◌, sym, ap, ap₂, ◌∙◌}
+use Prim.Native.Nat.{ℕ, zero, suc, ◌+◌, ◌-◌, ◌*◌, ◌/◌, ◌%◌, ◌≤◌, ◌<◌, min}
+use native.Mathlib.Nat.{le_refl, le_antisymm, le_of_suc-le-suc, suc-mul, mul_comm, mul-sub, mul-pos, mul-le-mul_left, mul-le-mul_right, le_of_mul-le-mul_right, div-mul-le_self, le-div_iff_mul-le, div-lt_iff_lt-mul, lt-div-mul-add, div-add-mod', mul-add-div_right, mul-add-mod_self_right, min-le_left, min-le_right}
 use native.Mathlib.Decide.{dec_le}
 use native.Mathlib.Omega.{arith}
 use Rattle.pair.specs.Rounding.{ceil_div}
+use Rattle.pair.specs.RoundingLaws.{RoundingLaws}
 
 pub ceil_le : {n d x : ℕ} → 0 < d → n ≤ x * d → ceil_div n d ≤ x
 unfolding ceil_div
@@ -74,3 +75,27 @@ min_up x y X Y m h k = by_outcome (dec_le x y)
     by_outcome : Dec (x ≤ y) → min X Y ≤ min x y * m
     by_outcome (yes p) = let e : min x y ≡ x = omega arith in rw e (omega (arith, h))
     by_outcome (no f) = let e : min x y ≡ y = omega arith in rw e (omega (arith, k))
+
+-- a is taken apart by d: only a % d is left to divide
+apart : (a b d : ℕ) → a / d * b * d + a % d * b ≡ a * b
+apart a b d = omega (arith, ap (λ (x : ℕ). x * b) (div-add-mod' a d))
+
+pub whole_apart : (a b d : ℕ) → 0 < d → a / d * b + a % d * b / d ≡ a * b / d
+whole_apart a b d p = sym (mul-add-div_right p (a / d * b) (a % d * b)) ∙ ap (λ (n : ℕ). n / d) (apart a b d)
+
+pub rest_apart : (a b d : ℕ) → a % d * b % d ≡ a * b % d
+rest_apart a b d = sym (mul-add-mod_self_right (a / d * b) d (a % d * b)) ∙ ap (λ (n : ℕ). n % d) (apart a b d)
+
+-- a quotient and what it leaves are together at most what is divided
+pub parts_fit : (n d : ℕ) → 0 < d → n / d + n % d ≤ n
+parts_fit n d p = omega (arith, div-add-mod' n d, mul-le-mul_left {m = 1} {n = d} (n / d) p)
+
+-- whole multiples of the divisor pass through every rounding
+module _ {over : ℕ → ℕ → ℕ} {added : ℕ → ℕ} (laws : RoundingLaws over added) where
+  pub over_more : (q n d : ℕ) → 0 < d → q + over n d ≡ over (q * d + n) d
+  over_more q n d p =
+      omega (arith, laws.parts n d p, laws.parts (q * d + n) d p, mul-add-div_right p q n, ap added (mul-add-mod_self_right q d n))
+
+  -- a quotient is at most what is divided
+  pub over_most : (n d : ℕ) → 0 < d → over n d ≤ n
+  over_most n d p = omega (arith, laws.parts n d p, laws.most (n % d), parts_fit n d p)

@@ -1,12 +1,12 @@
 -- How far from zero the results of signed pairs reach, and that operations on bounded operands fit.
 use mathlib.Core.Path.{◌≡◌, refl}
-use mathlib.Core.Bool.{true, cond, ◌&&◌}
-use Prim.Native.Nat.{ℕ, zero, suc, max, ◌+◌, ◌-◌, ◌*◌, ◌/◌, ◌^◌, ◌≤◌, ◌<◌}
+use mathlib.Core.Bool.{true, ◌&&◌}
+use Prim.Native.Nat.{ℕ, zero, suc, max, ◌+◌, ◌*◌, ◌/◌, ◌^◌, ◌≤◌, ◌<◌}
 use native.Mathlib.Nat.{le_trans, lt_of_le_of_lt, max-le, le-max_left, le-max_right, mul-le-mul, mul-le-mul_right, mul-le-mul_left, le-mul_of_pos_right}
 use native.Mathlib.Omega.{arith}
 use borrow.Author.Tests.{leb-true, ltb-true, le-leb, lt-ltb}
 use lib.Dec.{ltb}
-use lib.IntN.{ℤ, pos, negsuc, neg_ℤ, sub_ℕ, nat_abs, ◌+ℤ◌, ◌*ℤ◌}
+use lib.IntN.{ℤ, pos, negsuc, neg_ℤ, nat_abs, ◌+ℤ◌, ◌-ℤ◌, ◌*ℤ◌}
 use Rattle.pair.specs.Rounding.{ceil_div}
 use Rattle.pair.specs.Integers.{◌≼ℤ◌, floor_over, ceil_over}
 use Rattle.pair.specs.SignedPairs.{SignedPair, signed, difference, signed_plus, signed_minus, signed_times, signed_over, coarser, reach}
@@ -14,7 +14,8 @@ use Rattle.pair.specs.Fits.{word, ordered, signed_ordered, signed_plus_fits, sig
 use Rattle.pair.specs.Enclosure.{Ordered, SignedOrdered, AtLeast, AtMost, Reaches}
 use Rattle.pair.specs.declared.Pair.{Pair}
 use Rattle.pair.proofs.Quotients.{ceil_le, floor_le_ceil}
-use Rattle.pair.proofs.Tests.{and_left, and_right, and_both, and_three, by_test}
+use Rattle.pair.proofs.Tests.{and_left, and_right, and_both, and_three}
+use Rattle.pair.proofs.IntegerParts.{sub_size, neg_size, plus_size}
 use Rattle.pair.proofs.IntegerLaws.{of_least, of_greatest, leb_ℤ-true, le-leb_ℤ}
 use Rattle.pair.proofs.SignedProducts.{of_least_product, of_greatest_product}
 
@@ -36,26 +37,15 @@ reaches a h k = record { size = max-le h.size k.size }
 
 -- sizes of integers
 
-pub sub_size : (a b : ℕ) → nat_abs (sub_ℕ a b) ≤ max a b
-sub_size a b =
-    by_test (ltb a b) (λ t. nat_abs (cond t (negsuc (b - suc a)) (pos (a - b))) ≤ max a b) (λ e. omega (arith, ltb-true a b e)) (λ e. omega arith)
-
-pub neg_size : (x : ℤ) → nat_abs (neg_ℤ x) ≡ nat_abs x
-neg_size (pos zero) = refl
-neg_size (pos (suc n)) = refl
-neg_size (negsuc n) = refl
-
-pub plus_size : (x y : ℤ) → nat_abs (x +ℤ y) ≤ nat_abs x + nat_abs y
-plus_size (pos a) (pos b) = omega arith
-plus_size (pos a) (negsuc b) = omega (arith, sub_size a (suc b))
-plus_size (negsuc a) (pos b) = omega (arith, sub_size b (suc a))
-plus_size (negsuc a) (negsuc b) = omega arith
-
 pub times_size : (x y : ℤ) → nat_abs (x *ℤ y) ≡ nat_abs x * nat_abs y
 times_size (pos a) (pos b) = refl
 times_size (pos a) (negsuc b) = neg_size (pos (a * suc b))
 times_size (negsuc a) (pos b) = neg_size (pos (suc a * b))
 times_size (negsuc a) (negsuc b) = refl
+
+pub less_size : (a b : ℕ) → nat_abs (pos a -ℤ pos b) ≤ max a b
+less_size a zero = omega arith
+less_size a (suc b) = sub_size a (suc b)
 
 plus-Within : {a b : ℕ} {x y : ℤ} → Within a x → Within b y → Within (a + b) (x +ℤ y)
 plus-Within {x} {y} h k = omega (arith, plus_size x y)
@@ -87,7 +77,7 @@ signed-Reaches o h = omega arith
 
 pub difference-Reaches : {a b : ℕ} {p q : Pair} → Ordered p → Ordered q → AtMost a p → AtMost b q → Reaches (max a b) (difference p q)
 unfolding difference
-difference-Reaches {a} {b} {p} {q} o r h k = reaches _ (omega (arith, sub_size p.lo q.hi)) (omega (arith, sub_size p.hi q.lo))
+difference-Reaches {a} {b} {p} {q} o r h k = reaches _ (omega (arith, less_size p.lo q.hi)) (omega (arith, less_size p.hi q.lo))
 
 pub signed_plus-Reaches : {a b : ℕ} {x y : SignedPair} → Reaches a x → Reaches b y → Reaches (a + b) (signed_plus x y)
 unfolding signed_plus

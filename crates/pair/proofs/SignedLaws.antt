@@ -1,13 +1,14 @@
 -- Differences and sums as signed pairs, and coarser units: an exact result lies between the ends, the ends are in order, and a finer result lies inside a coarser one.
+use mathlib.Core.Path.{◌≡◌}
 use Prim.Native.Nat.{ℕ, ◌*◌, ◌<◌}
 use native.Mathlib.Nat.{le_trans, mul_comm}
 use native.Mathlib.Omega.{arith}
 use lib.IntN.{ℤ, pos, sub_ℕ, ◌+ℤ◌, ◌-ℤ◌}
-use Rattle.pair.specs.SignedPairs.{SignedPair, signed, difference, signed_plus, signed_minus, coarser}
+use Rattle.pair.specs.SignedPairs.{SignedPair, ◌upto◌, signed, opposite, difference, signed_plus, signed_minus, coarser}
 use Rattle.pair.specs.Enclosure.{Inside, SignedInside, Between, SignedBetween, Ordered, SignedOrdered}
 use Rattle.pair.specs.declared.Pair.{Pair}
-use Rattle.pair.proofs.IntegerLaws.{sub_scaled, plus_scaled, le_trans_ℤ, sub_le, plus_le, scaled_scaled}
-use Rattle.pair.proofs.Opposites.{opposite, opposite_between, opposite_ordered, opposite_inside}
+use Rattle.pair.proofs.IntegerLaws.{sub_is, plus_scaled, le_trans_ℤ, plus_le, scaled_scaled}
+use Rattle.pair.proofs.Opposites.{opposite_between, opposite_ordered, opposite_inside}
 use Rattle.pair.proofs.IntegerRounding.{le_floor_ℤ, ceil_le_ℤ, floor_scaled, ceil_scaled, floor_le_ceil_ℤ}
 
 -- the ends of a finer pair lie between those of the coarser one
@@ -38,24 +39,7 @@ pub signed_inside : {m : ℕ} {P p : Pair} → Inside m P p → SignedInside m (
 unfolding signed
 signed_inside i = omega arith
 
--- differences and sums
-
-pub difference-Between : {m x y : ℕ} {p q : Pair} → Between m x p → Between m y q → SignedBetween m (sub_ℕ x y) (difference p q)
-unfolding difference
-difference-Between b c = record { low = rw sub_scaled (sub_le b.low c.high); high = rw sub_scaled (sub_le b.high c.low) }
-
-pub difference-Ordered : {p q : Pair} → Ordered p → Ordered q → SignedOrdered (difference p q)
-unfolding difference
-difference-Ordered o r = record { ends = sub_le o.ends r.ends }
-
-pub difference-Inside : {m : ℕ} {P p Q q : Pair} → Inside m P p → Inside m Q q → SignedInside m (difference P Q) (difference p q)
-unfolding difference
-difference-Inside i k =
-    record {
-      low = (difference-Between (low_between i) (high_between k)).low;
-      mid = sub_le i.mid k.mid;
-      high = (difference-Between (high_between i) (low_between k)).high;
-    }
+-- sums
 
 pub signed_plus_between : {m : ℕ} {x y : ℤ} {a b : SignedPair} → SignedBetween m x a → SignedBetween m y b → SignedBetween m (x +ℤ y) (signed_plus a b)
 unfolding signed_plus
@@ -87,6 +71,25 @@ signed_minus_ordered o r = signed_plus_ordered o (opposite_ordered r)
 pub signed_minus_inside : {m : ℕ} {A a B b : SignedPair} → SignedInside m A a → SignedInside m B b → SignedInside m (signed_minus A B) (signed_minus a b)
 unfolding signed_plus signed_minus opposite
 signed_minus_inside i k = signed_plus_inside i (opposite_inside k)
+
+-- and a difference of pairs is that of signed pairs
+
+pub difference-Between : {m x y : ℕ} {p q : Pair} → Between m x p → Between m y q → SignedBetween m (pos x -ℤ pos y) (difference p q)
+unfolding signed difference signed_minus
+difference-Between b c = signed_minus_between (signed_between b) (signed_between c)
+
+pub difference-Ordered : {p q : Pair} → Ordered p → Ordered q → SignedOrdered (difference p q)
+unfolding signed difference signed_minus
+difference-Ordered o r = signed_minus_ordered (signed_ordered_lem o) (signed_ordered_lem r)
+
+pub difference-Inside : {m : ℕ} {P p Q q : Pair} → Inside m P p → Inside m Q q → SignedInside m (difference P Q) (difference p q)
+unfolding signed difference signed_minus
+difference-Inside i k = signed_minus_inside (signed_inside i) (signed_inside k)
+
+-- in the library's word for what may lie below zero
+pub difference_is : (p q : Pair) → difference p q ≡ (sub_ℕ p.lo q.hi upto sub_ℕ p.hi q.lo)
+unfolding difference
+difference_is p q = λ i. record { lo = sub_is p.lo q.hi i; hi = sub_is p.hi q.lo i }
 
 -- coarser units
 

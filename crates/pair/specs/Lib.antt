@@ -2,7 +2,8 @@ pub mod Rounding
 pub mod Pairs
 pub mod Integers
 pub mod SignedPairs
-pub mod Forms
 pub mod Fits
 pub mod Enclosure
 pub mod Remainders
+pub mod RoundingLaws
+pub mod Roots

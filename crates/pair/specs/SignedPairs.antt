@@ -1,7 +1,6 @@
 -- Pairs whose ends are integers, in units of 1/s: for differences that may lie below zero.
 -- The same rule as in Pairs: the ends that make the result smallest and largest, then rounded toward minus and plus infinity.
-use Rattle.std.specs.Prelude.{ℕ, max, ℤ, pos, nat_abs, ◌+ℤ◌, ◌-ℤ◌, ◌*ℤ◌}
-use Rattle.std.proofs.Math.IntN.{sub_ℕ}
+use Rattle.std.specs.Prelude.{ℕ, max, ℤ, pos, nat_abs, neg_ℤ, ◌+ℤ◌, ◌-ℤ◌, ◌*ℤ◌}
 use Rattle.pair.specs.Integers.{least, greatest, floor_over, ceil_over}
 use Rattle.pair.specs.declared.Pair.{Pair}
 
@@ -17,9 +16,13 @@ a upto b = record { lo = a; hi = b }
 unfoldable pub signed : Pair → SignedPair
 signed p = pos p.lo upto pos p.hi
 
+-- −a: the ends change places
+unfoldable pub opposite : SignedPair → SignedPair
+opposite a = neg_ℤ a.hi upto neg_ℤ a.lo
+
 -- p − q
 unfoldable pub difference : Pair → Pair → SignedPair
-difference p q = sub_ℕ p.lo q.hi upto sub_ℕ p.hi q.lo
+difference p q = (pos p.lo -ℤ pos q.hi) upto (pos p.hi -ℤ pos q.lo)
 
 unfoldable pub signed_plus : SignedPair → SignedPair → SignedPair
 signed_plus a b = (a.lo +ℤ b.lo) upto (a.hi +ℤ b.hi)

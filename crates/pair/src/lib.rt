@@ -11,23 +11,26 @@ ghost use Rattle.std.specs.Prelude.{◌≡◌, true};
 ghost use Rattle.pair.specs.Pairs.{exact, ratio, plus, minus, times, over, root, cube_root, smaller};
 ghost use Rattle.pair.specs.Fits.{ratio_fits, plus_fits, minus_fits, times_fits, over_fits, times_ratio_fits, over_ratio_fits, root_fits, cube_root_fits};
 
+use roots::{Cube, Square};
+use wide::{Down, Up};
+
 #[repr(C)]
-#[derive(Clone, Copy)]
+#[derive(Clone, Copy, Debug, PartialEq, Eq)]
 pub struct Pair {
     pub lo: u64,
     pub hi: u64,
 }
 
-// Two pairs, worked side by side.
-#[repr(C)]
-#[derive(Clone, Copy)]
-pub struct TwoPairs {
-    pub one: Pair,
-    pub two: Pair,
+// Two of a kind: of flange 1 and of flange 2, or worked side by side.
+#[derive(Clone, Copy, Debug, PartialEq, Eq)]
+pub struct Both<T> {
+    pub one: T,
+    pub two: T,
 }
 
 impl Pair {
     // Both ends equal.
+    #[tactic(auto, unfolding(crate::specs::Pairs::exact))]
     pub fn exact(v: u64) -> Self
         ensures { result ≡ exact v }
     {
@@ -35,6 +38,7 @@ impl Pair {
     }
 
     // The exact value a / b.
+    #[tactic(auto, using(crate::proofs::Fitting::exact_out), unfolding(crate::specs::Pairs::ratio))]
     pub fn ratio(a: u64, b: u64, s: u64) -> Self
         requires { ratio_fits s a b ≡ true }
         ensures { result ≡ ratio s a b }
@@ -42,6 +46,7 @@ impl Pair {
         Pair::exact(a * s / b)
     }
 
+    #[tactic(auto, using(crate::proofs::Fitting::plus_out), unfolding(crate::specs::Pairs::plus))]
     pub fn plus(self, q: Pair) -> Self
         requires { plus_fits self q ≡ true }
         ensures { result ≡ plus self q }
@@ -52,6 +57,7 @@ impl Pair {
         }
     }
 
+    #[tactic(auto, using(crate::proofs::Fitting::minus_out), unfolding(crate::specs::Pairs::minus))]
     pub fn minus(self, q: Pair) -> Self
         requires { minus_fits self q ≡ true }
         ensures { result ≡ minus self q }
@@ -62,52 +68,59 @@ impl Pair {
         }
     }
 
-    // Where both products fit a word they are divided there.
+    #[tactic(auto, using(crate::proofs::Outward::times_outward, crate::proofs::Outward::outward_is))]
+    #[inline]
     pub fn times(self, q: Pair, s: u64) -> Self
         requires { times_fits s self q ≡ true }
         ensures { result ≡ times s self q }
     {
-        if wide::high(self.lo, q.lo) == 0 && wide::high(self.hi, q.hi) == 0 {
+        // Where both products fit a word they are divided here, in less time.
+        let low = self.lo as u128 * q.lo as u128;
+        let high = self.hi as u128 * q.hi as u128;
+        if low <= u64::MAX as u128 && high <= u64::MAX as u128 {
             return Pair {
-                lo: self.lo * q.lo / s,
-                hi: wide::up(self.hi * q.hi, s),
+                lo: wide::quotient::<Down>(low as u64, s),
+                hi: wide::quotient::<Up>(high as u64, s),
             };
         }
         Pair {
-            lo: wide::floor_at_scale(self.lo, q.lo, s),
-            hi: wide::ceil_at_scale(self.hi, q.hi, s),
+            lo: wide::at_scale::<Down>(self.lo, q.lo, s),
+            hi: wide::at_scale::<Up>(self.hi, q.hi, s),
         }
     }
 
+    #[tactic(auto, using(crate::proofs::Outward::over_outward, crate::proofs::Outward::outward_is))]
     pub fn over(self, q: Pair, s: u64) -> Self
         requires { over_fits s self q ≡ true }
         ensures { result ≡ over s self q }
     {
         Pair {
-            lo: wide::floor_of(self.lo, s, q.hi),
-            hi: wide::ceil_of(self.hi, s, q.lo),
+            lo: wide::by::<Down>(self.lo, s, q.hi),
+            hi: wide::by::<Up>(self.hi, s, q.lo),
         }
     }
 
     // Times the exact value a / b: the scale cancels.
+    #[tactic(auto, using(crate::proofs::Ratios::times_by_ratio, crate::proofs::Outward::outward_is))]
     pub fn times_ratio(self, a: u64, b: u64, s: u64) -> Self
         requires { times_ratio_fits s self a b ≡ true }
         ensures { result ≡ times s self (ratio s a b) }
     {
         Pair {
-            lo: wide::floor_of(self.lo, a, b),
-            hi: wide::ceil_of(self.hi, a, b),
+            lo: wide::by::<Down>(self.lo, a, b),
+            hi: wide::by::<Up>(self.hi, a, b),
         }
     }
 
     // Divided by the exact value a / b: the scale cancels.
+    #[tactic(auto, using(crate::proofs::Ratios::over_by_ratio, crate::proofs::Outward::outward_is))]
     pub fn over_ratio(self, a: u64, b: u64, s: u64) -> Self
         requires { over_ratio_fits s self a b ≡ true }
         ensures { result ≡ over s self (ratio s a b) }
     {
         Pair {
-            lo: wide::floor_of(self.lo, b, a),
-            hi: wide::ceil_of(self.hi, b, a),
+            lo: wide::by::<Down>(self.lo, b, a),
+            hi: wide::by::<Up>(self.hi, b, a),
         }
     }
 
@@ -116,50 +129,52 @@ impl Pair {
         requires { root_fits s self ≡ true }
         ensures { result ≡ root s self }
     {
-        let below = roots::scaled_square(self.lo, s);
+        let below = Square::scaled(self.lo, s);
         Pair {
             lo: below.root,
-            hi: roots::square_above(below, self.lo, self.hi, s),
+            hi: below.above(self.lo, self.hi, s),
         }
     }
 
     // The roots of two pairs, worked side by side.
-    pub fn roots(self, q: Pair, s: u64) -> TwoPairs
-        requires { (root_fits s self ≡ true) × (root_fits s q ≡ true) }
-        ensures { (result.one ≡ root s self) × (result.two ≡ root s q) }
+    pub fn roots(self, q: Pair, s: u64) -> Both<Pair>
+        requires one { root_fits s self ≡ true }
+        requires two { root_fits s q ≡ true }
+        ensures one { result.one ≡ root s self }
+        ensures two { result.two ≡ root s q }
     {
-        let below = roots::scaled_squares(self.lo, q.lo, s);
-        let first = below.one;
-        let second = below.two;
-        let one = Pair {
-            lo: first.root,
-            hi: roots::square_above(first, self.lo, self.hi, s),
-        };
-        let two = Pair {
-            lo: second.root,
-            hi: roots::square_above(second, q.lo, q.hi, s),
-        };
-        TwoPairs { one, two }
+        let below = Square::both_scaled(self.lo, q.lo, s);
+        Both {
+            one: Pair {
+                lo: below.one.root,
+                hi: below.one.above(self.lo, self.hi, s),
+            },
+            two: Pair {
+                lo: below.two.root,
+                hi: below.two.above(q.lo, q.hi, s),
+            },
+        }
     }
 
     pub fn cube_root(self, s: u64) -> Self
         requires { cube_root_fits s self ≡ true }
         ensures { result ≡ cube_root s self }
     {
-        let below = roots::scaled_cube(self.lo, s);
+        let below = Cube::scaled(self.lo, s);
         Pair {
             lo: below.root,
-            hi: roots::cube_above(below, self.lo, self.hi, s),
+            hi: below.above(self.lo, self.hi, s),
         }
     }
 
     // The smaller of two values, end by end.
+    #[tactic(auto, unfolding(crate::specs::Pairs::smaller))]
     pub fn smaller(self, q: Pair) -> Self
         ensures { result ≡ smaller self q }
     {
         Pair {
-            lo: wide::lesser(self.lo, q.lo),
-            hi: wide::lesser(self.hi, q.hi),
+            lo: self.lo.min(q.lo),
+            hi: self.hi.min(q.hi),
         }
     }
 }

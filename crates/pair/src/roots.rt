@@ -1,254 +1,257 @@
 // Whole roots, each held with what it leaves: one bit of the root after the other, but for a square root
 // whose guess is right.
-ghost use Rattle.std.specs.Prelude.{◌≡◌, ◌+◌, ◌*◌, ◌%◌, ◌^◌, ◌≤◌, ◌<◌};
+ghost use Rattle.std.specs.Prelude.{◌≡◌, ◌+◌, ◌*◌, ◌%◌, ◌^◌, ◌≤◌, ◌<◌, IfSome};
 ghost use Rattle.pair.specs.Rounding.{root_up};
-ghost use Rattle.pair.specs.Remainders.{SquareRooted, CubeRooted};
 
-use crate::{guesses, wide};
+use crate::{Both, guesses};
 
 // A square root with what is left over.
-#[derive(Clone, Copy)]
+#[derive(Clone, Copy, Debug, PartialEq, Eq)]
 pub struct Square {
     pub root: u64,
     pub rest: u64,
+    ghost small: { rest ≤ 2 * root },
 }
 
 // A cube root with what is left over, and three times the root's square.
-#[derive(Clone, Copy)]
+#[derive(Clone, Copy, Debug, PartialEq, Eq)]
 pub struct Cube {
     pub root: u64,
     pub triple: u64,
     pub rest: u64,
+    ghost thrice: { triple ≡ 3 * (root * root) },
+    ghost small: { rest ≤ triple + 3 * root },
 }
 
-// The root so far takes in two bits more of the number, and has one bit more.
-pub fn square_step(t: Square, digit: u64) -> Square
-    requires { (t.rest ≤ 2 * t.root) × (t.root < 2 ^ 60) × (digit < 4) }
-    ensures { SquareRooted ((t.root * t.root + t.rest) * 4 + digit) result.root result.rest }
-{
-    let part = t.rest * 4 + digit;
-    let odd = t.root * 4 + 1;
-    let one = odd <= part;
-    Square {
-        root: t.root * 2 + wide::pick(one, 1, 0),
-        rest: part - wide::pick(one, odd, 0),
-    }
-}
+impl Square {
+    ghost use Rattle.pair.specs.Roots.{square_taken};
 
-// Two square roots.
-#[derive(Clone, Copy)]
-pub struct Squares {
-    pub one: Square,
-    pub two: Square,
-}
-
-// The roots of m and n in one loop: a bit of the one need not wait for a bit of the other.
-fn squares_by_bits(m: u64, n: u64) -> Squares
-    ensures { SquareRooted m result.one.root result.one.rest × SquareRooted n result.two.root result.two.rest }
-{
-    let mut one = Square { root: 0, rest: 0 };
-    let mut two = Square { root: 0, rest: 0 };
-    let most = wide::pick(m < n, n, m);
-    let mut at = (65 - u64::leading_zeros(most)) / 2 * 2;
-    while 0 < at {
-        at -= 2;
-        one = square_step(one, (m >> at) % 4);
-        two = square_step(two, (n >> at) % 4);
-    }
-    Squares { one, two }
-}
-
-// A square near n from below and what it leaves: that of the guess, or of one more.
-fn square_near(n: u64) -> Square
-    ensures { (result.root * result.root + result.rest ≡ n) × (result.root ≤ 2 ^ 32) }
-{
-    let guess = guesses::square_root(n);
-    let square = guess * guess;
-    if n < square {
-        return Square { root: 0, rest: n };
-    }
-    let rest = n - square;
-    let more = guess * 2 < rest;
-    Square {
-        root: guess + wide::pick(more, 1, 0),
-        rest: rest - wide::pick(more, guess * 2 + 1, 0),
-    }
-}
-
-// The roots of m and n: as guessed, where what is left shows that the guesses are right.
-pub fn squares_of(m: u64, n: u64) -> Squares
-    ensures { SquareRooted m result.one.root result.one.rest × SquareRooted n result.two.root result.two.rest }
-{
-    let one = square_near(m);
-    let two = square_near(n);
-    if one.rest <= one.root * 2 {
-        if two.rest <= two.root * 2 {
-            return Squares { one, two };
+    // Two bits more of the number, and one bit more of the root.
+    #[tactic(auto, using(crate::proofs::Steps::square_steps))]
+    pub fn with_digit(self, digit: u64) -> Self
+        requires room { self.root < 2 ^ 60 }
+        requires digit { digit < 4 }
+        ensures { square_taken result ≡ square_taken self * 4 + digit }
+    {
+        let part = self.rest * 4 + digit;
+        let odd = self.root * 4 + 1;
+        let bit = (odd <= part) as u64;
+        Square {
+            root: self.root * 2 + bit,
+            rest: part - bit * odd,
         }
     }
-    squares_by_bits(m, n)
-}
 
-pub fn square_of(n: u64) -> Square
-    ensures { SquareRooted n result.root result.rest }
-{
-    let t = square_near(n);
-    if t.rest <= t.root * 2 {
-        return t;
+    // Three digits 0 more.
+    fn by_64(self) -> Self
+        requires { square_taken self * 64 < 2 ^ 70 }
+        ensures { square_taken result ≡ square_taken self * 64 }
+    {
+        self.with_digit(0).with_digit(0).with_digit(0)
     }
-    let u = squares_by_bits(n, 0);
-    u.one
-}
 
-// Three digits 0 more.
-fn by_64(t: Square) -> Square
-    requires { (t.rest ≤ 2 * t.root) × ((t.root * t.root + t.rest) * 64 < 2 ^ 70) }
-    ensures { SquareRooted ((t.root * t.root + t.rest) * 64) result.root result.rest }
-{
-    let a = square_step(t, 0);
-    let b = square_step(a, 0);
-    square_step(b, 0)
-}
-
-// The root of v * s. Where that passes 64 bits: of v * (s / 64), and three digits 0 more.
-pub fn scaled_square(v: u64, s: u64) -> Square
-    requires { (s % 64 ≡ 0) × (v * s < 2 ^ 70) }
-    ensures { SquareRooted (v * s) result.root result.rest }
-{
-    if wide::high(v, s) == 0 {
-        return square_of(v * s);
+    // The root rounded up.
+    fn up(self) -> u64
+        requires { self.root < 2 ^ 60 }
+        ensures { result ≡ root_up 2 (square_taken self) }
+    {
+        self.root + self.rest.min(1)
     }
-    by_64(square_of(v * (s / 64)))
-}
 
-// The roots of v * s and of w * s.
-pub fn scaled_squares(v: u64, w: u64, s: u64) -> Squares
-    requires { (s % 64 ≡ 0) × (v * s < 2 ^ 70) × (w * s < 2 ^ 70) }
-    ensures { SquareRooted (v * s) result.one.root result.one.rest × SquareRooted (w * s) result.two.root result.two.rest }
-{
-    if wide::high(v, s) == 0 {
-        if wide::high(w, s) == 0 {
-            return squares_of(v * s, w * s);
-        }
-    }
-    let part = s / 64;
-    let t = squares_of(v * part, w * part);
-    Squares {
-        one: by_64(t.one),
-        two: by_64(t.two),
-    }
-}
-
-// The root of v * s rounded up.
-fn square_up(v: u64, s: u64) -> u64
-    requires { (s % 64 ≡ 0) × (v * s < 2 ^ 70) }
-    ensures { result ≡ root_up 2 (v * s) }
-{
-    let t = scaled_square(v, s);
-    if t.rest == 0 { t.root } else { t.root + 1 }
-}
-
-// The root of hi * s rounded up, from the root of lo * s. What that would leave of hi * s is left,
-// so the root is higher by d = left / (2 * root + 1) rounded up, where d - 1 is not enough.
-pub fn square_above(t: Square, lo: u64, hi: u64, s: u64) -> u64
-    requires { (lo ≤ hi) × (s % 64 ≡ 0) × (hi * s < 2 ^ 70) × SquareRooted (lo * s) t.root t.rest }
-    ensures { result ≡ root_up 2 (hi * s) }
-{
-    let more = hi - lo;
-    let twice = t.root * 2;
-    if more < 0x10_0000 {
-        if s < 0x100_0000_0000 {
-            let left = more * s + t.rest;
+    // The root of hi * s rounded up, from this of lo * s. What it would leave of hi * s is left, so the
+    // root is higher by d = left / (2 * root + 1) rounded up, where d - 1 is not enough.
+    pub fn above(self, lo: u64, hi: u64, s: u64) -> u64
+        requires order { lo ≤ hi }
+        requires scale { s % 64 ≡ 0 }
+        requires fits { hi * s < 2 ^ 70 }
+        requires taken { square_taken self ≡ lo * s }
+        ensures { result ≡ root_up 2 (hi * s) }
+    {
+        let more = hi - lo;
+        let twice = self.root * 2;
+        if more < 0x10_0000 && s < 0x100_0000_0000 {
+            let left = more * s + self.rest;
             let d = (left + twice) / (twice + 1);
             if d == 0 {
-                return t.root;
+                return self.root;
             }
-            if d < 0x10_0000 {
-                if (d - 1) * (twice + (d - 1)) < left {
-                    return t.root + d;
-                }
+            if d < 0x10_0000 && (d - 1) * (twice + (d - 1)) < left {
+                return self.root + d;
             }
         }
+        Square::scaled(hi, s).up()
     }
-    square_up(hi, s)
-}
 
-// The root so far takes in three bits more of the number, and has one bit more.
-pub fn cube_step(t: Cube, digit: u64) -> Cube
-    requires { (t.triple ≡ 3 * (t.root * t.root)) × (t.rest ≤ t.triple + 3 * t.root) × (t.root < 2 ^ 28) × (digit < 8) }
-    ensures { CubeRooted ((t.root * t.root * t.root + t.rest) * 8 + digit) result.root result.triple result.rest }
-{
-    let part = t.rest * 8 + digit;
-    let odd = t.triple * 4 + t.root * 6 + 1;
-    let one = odd <= part;
-    Cube {
-        root: t.root * 2 + wide::pick(one, 1, 0),
-        triple: t.triple * 4 + wide::pick(one, t.root * 12 + 3, 0),
-        rest: part - wide::pick(one, odd, 0),
+    // The roots of m and n in one loop: a bit of the one need not wait for a bit of the other.
+    fn both_by_bits(m: u64, n: u64) -> Both<Square>
+        ensures one { square_taken result.one ≡ m }
+        ensures two { square_taken result.two ≡ n }
+    {
+        let mut one = Square { root: 0, rest: 0 };
+        let mut two = Square { root: 0, rest: 0 };
+        let digits = (65 - m.max(n).leading_zeros()) / 2;
+        for at in (0..digits).rev() {
+            one = one.with_digit((m >> (at * 2)) % 4);
+            two = two.with_digit((n >> (at * 2)) % 4);
+        }
+        Both { one, two }
+    }
+
+    // The root of n: the guess or one more, where what that leaves shows that it is right.
+    #[inline]
+    fn guessed(n: u64) -> Option<Square>
+        ensures { IfSome result (λ t. square_taken t ≡ n) }
+    {
+        let guess = guesses::square_root(n) as u64;
+        let rest = n.checked_sub(guess * guess)?;
+        let more = (guess * 2 < rest) as u64;
+        let root = guess + more;
+        let rest = rest - more * (guess * 2 + 1);
+        if rest <= root * 2 {
+            Some(Square { root, rest })
+        } else {
+            None
+        }
+    }
+
+    // The roots of m and n.
+    pub fn both_of(m: u64, n: u64) -> Both<Square>
+        ensures one { square_taken result.one ≡ m }
+        ensures two { square_taken result.two ≡ n }
+    {
+        if let Some(one) = Square::guessed(m)
+            && let Some(two) = Square::guessed(n)
+        {
+            return Both { one, two };
+        }
+        Square::both_by_bits(m, n)
+    }
+
+    pub fn of(n: u64) -> Square
+        ensures { square_taken result ≡ n }
+    {
+        match Square::guessed(n) {
+            Some(t) => t,
+            None => Square::both_by_bits(n, 0).one,
+        }
+    }
+
+    // The root of v * s. Where that passes 64 bits: of v * (s / 64), and three digits 0 more.
+    #[tactic(auto, using(crate::proofs::ScaledRoot::by_64))]
+    pub fn scaled(v: u64, s: u64) -> Square
+        requires scale { s % 64 ≡ 0 }
+        requires fits { v * s < 2 ^ 70 }
+        ensures { square_taken result ≡ v * s }
+    {
+        match v.checked_mul(s) {
+            Some(n) => Square::of(n),
+            None => Square::of(v * (s / 64)).by_64(),
+        }
+    }
+
+    // The roots of v * s and of w * s.
+    #[tactic(auto, using(crate::proofs::ScaledRoot::by_64))]
+    pub fn both_scaled(v: u64, w: u64, s: u64) -> Both<Square>
+        requires scale { s % 64 ≡ 0 }
+        requires one { v * s < 2 ^ 70 }
+        requires two { w * s < 2 ^ 70 }
+        ensures one { square_taken result.one ≡ v * s }
+        ensures two { square_taken result.two ≡ w * s }
+    {
+        if let Some(m) = v.checked_mul(s)
+            && let Some(n) = w.checked_mul(s)
+        {
+            return Square::both_of(m, n);
+        }
+        let part = s / 64;
+        let t = Square::both_of(v * part, w * part);
+        Both {
+            one: t.one.by_64(),
+            two: t.two.by_64(),
+        }
     }
 }
 
-pub fn cube_of(n: u64) -> Cube
-    ensures { CubeRooted n result.root result.triple result.rest }
-{
-    let mut t = Cube {
-        root: 0,
-        triple: 0,
-        rest: 0,
-    };
-    let mut at = (66 - u64::leading_zeros(n)) / 3 * 3;
-    while 0 < at {
-        at -= 3;
-        t = cube_step(t, (n >> at) % 8);
+impl Cube {
+    ghost use Rattle.pair.specs.Roots.{cube_taken};
+
+    // Three bits more of the number, and one bit more of the root.
+    #[tactic(auto, using(crate::proofs::Steps::cube_steps))]
+    pub fn with_digit(self, digit: u64) -> Self
+        requires room { self.root < 2 ^ 28 }
+        requires digit { digit < 8 }
+        ensures { cube_taken result ≡ cube_taken self * 8 + digit }
+    {
+        let part = self.rest * 8 + digit;
+        let odd = self.triple * 4 + self.root * 6 + 1;
+        let bit = (odd <= part) as u64;
+        Cube {
+            root: self.root * 2 + bit,
+            triple: self.triple * 4 + bit * (self.root * 12 + 3),
+            rest: part - bit * odd,
+        }
     }
-    t
-}
 
-// The cube root of v * s * s, which may pass 64 bits: of v * (s / 64) * (s / 64), and four digits 0 more.
-pub fn scaled_cube(v: u64, s: u64) -> Cube
-    requires { (s % 64 ≡ 0) × (v * (s * s) < 2 ^ 76) }
-    ensures { CubeRooted (v * (s * s)) result.root result.triple result.rest }
-{
-    let part = s / 64;
-    let a = cube_of(v * part * part);
-    let b = cube_step(a, 0);
-    let c = cube_step(b, 0);
-    let d = cube_step(c, 0);
-    cube_step(d, 0)
-}
+    // The root rounded up.
+    fn up(self) -> u64
+        requires { self.root < 2 ^ 28 }
+        ensures { result ≡ root_up 3 (cube_taken self) }
+    {
+        self.root + self.rest.min(1)
+    }
 
-// The cube root of v * s * s rounded up.
-fn cube_up(v: u64, s: u64) -> u64
-    requires { (s % 64 ≡ 0) × (v * (s * s) < 2 ^ 76) }
-    ensures { result ≡ root_up 3 (v * (s * s)) }
-{
-    let t = scaled_cube(v, s);
-    if t.rest == 0 { t.root } else { t.root + 1 }
-}
-
-// The cube root of hi * s * s rounded up, from the root of lo * s * s, as in square_above: here
-// d = left / (3 * root * root + 3 * root + 1) rounded up.
-pub fn cube_above(t: Cube, lo: u64, hi: u64, s: u64) -> u64
-    requires { (lo ≤ hi) × (s % 64 ≡ 0) × (hi * (s * s) < 2 ^ 76) × CubeRooted (lo * (s * s)) t.root t.triple t.rest }
-    ensures { result ≡ root_up 3 (hi * (s * s)) }
-{
-    let more = hi - lo;
-    let thrice = t.root * 3;
-    if more < 0x4000 {
-        if s < 0x100_0000 {
-            let left = more * (s * s) + t.rest;
-            let gap = t.triple + thrice;
+    // The root of hi * s * s rounded up, from this of lo * s * s, as for a square root: here
+    // d = left / (3 * root * root + 3 * root + 1) rounded up.
+    pub fn above(self, lo: u64, hi: u64, s: u64) -> u64
+        requires order { lo ≤ hi }
+        requires scale { s % 64 ≡ 0 }
+        requires fits { hi * (s * s) < 2 ^ 76 }
+        requires taken { cube_taken self ≡ lo * (s * s) }
+        ensures { result ≡ root_up 3 (hi * (s * s)) }
+    {
+        let more = hi - lo;
+        let thrice = self.root * 3;
+        if more < 0x4000 && s < 0x100_0000 {
+            let left = more * (s * s) + self.rest;
+            let gap = self.triple + thrice;
             let d = (left + gap) / (gap + 1);
             if d == 0 {
-                return t.root;
+                return self.root;
             }
-            if d < 0x400 {
-                let e = d - 1;
-                if e * (t.triple + e * (thrice + e)) < left {
-                    return t.root + d;
-                }
+            if d < 0x400 && (d - 1) * (self.triple + (d - 1) * (thrice + (d - 1))) < left {
+                return self.root + d;
             }
         }
+        Cube::scaled(hi, s).up()
     }
-    cube_up(hi, s)
+
+    pub fn of(n: u64) -> Cube
+        ensures { cube_taken result ≡ n }
+    {
+        let mut t = Cube {
+            root: 0,
+            triple: 0,
+            rest: 0,
+        };
+        let digits = (66 - n.leading_zeros()) / 3;
+        for at in (0..digits).rev() {
+            t = t.with_digit((n >> (at * 3)) % 8);
+        }
+        t
+    }
+
+    // The cube root of v * s * s, which may pass 64 bits: of v * (s / 64) * (s / 64), and four digits 0 more.
+    #[tactic(auto, using(crate::proofs::ScaledRoot::by_4096, crate::proofs::ScaledRoot::factor_fits, crate::proofs::ScaledRoot::cube_room))]
+    pub fn scaled(v: u64, s: u64) -> Cube
+        requires scale { s % 64 ≡ 0 }
+        requires fits { v * (s * s) < 2 ^ 76 }
+        ensures { cube_taken result ≡ v * (s * s) }
+    {
+        let part = s / 64;
+        Cube::of(v * part * part)
+            .with_digit(0)
+            .with_digit(0)
+            .with_digit(0)
+            .with_digit(0)
+    }
 }

@@ -1,299 +1,211 @@
-// Integers and pairs of them, for what may lie below zero. A size may need all 64 bits, so an
-// integer is its size and whether it is below zero; `integer` and `meaning` of specs/Forms
-// say what stands for what. An operand may be a zero below zero; what is returned is the one form
-// that `plain` and `plain_pair` name, in which zero is not below zero.
-ghost use Rattle.std.specs.Prelude.{◌≡◌, true, ◌+◌, ◌*◌, ◌^◌, ◌<◌, pos, neg_ℤ, ◌+ℤ◌, ◌*ℤ◌};
-ghost use Rattle.std.proofs.Math.IntN.{sub_ℕ};
+// Pairs whose ends may lie below zero, and the rounding of their ends. A size may need all 64 bits.
+ghost use Rattle.std.specs.Prelude.{◌≡◌, true, ◌*◌, ◌^◌, ◌<◌, pos, ◌*ℤ◌, unsigned_abs};
 ghost use Rattle.pair.specs.Rounding.{ceil_div};
-ghost use Rattle.pair.specs.Integers.{leb_ℤ, least, greatest, floor_over, ceil_over};
-ghost use Rattle.pair.specs.SignedPairs.{◌upto◌, signed, difference, signed_plus, signed_minus, signed_times, signed_over, coarser};
-ghost use Rattle.pair.specs.Forms.{integer, plain, meaning, plain_pair};
+ghost use Rattle.pair.specs.Integers.{least, floor_over, ceil_over};
+ghost use Rattle.pair.specs.SignedPairs.{signed, opposite, difference, signed_plus, signed_minus, signed_times, signed_over, coarser, reach};
 ghost use Rattle.pair.specs.Fits.{signed_plus_fits, signed_times_fits, signed_over_fits};
 
+use crate::wide::{Down, Up};
 use crate::{Pair, wide};
+use std::marker::Model;
 
-#[repr(C)]
-#[derive(Clone, Copy)]
-pub struct Integer {
-    pub below: bool,
-    pub size: u64,
-}
-
-// A lower and an upper end, in units of 1/s.
-#[repr(C)]
-#[derive(Clone, Copy)]
+// A lower and an upper end, in units of 1/s, each of a size below 2^64.
+#[derive(Clone, Copy, Debug, PartialEq, Eq)]
 pub struct Signed {
-    pub lo: Integer,
-    pub hi: Integer,
+    pub lo: i128,
+    pub hi: i128,
 }
 
-impl Integer {
-    // The one form of an integer: zero is not below zero.
-    fn of(below: bool, size: u64) -> Self
-        ensures { result ≡ plain (integer (record { below = below; size = size })) }
-    {
-        if 0 < size {
-            Integer { below, size }
-        } else {
-            Integer { below: false, size }
-        }
-    }
+impl Model for Signed {
+    ghost use Rattle.std.specs.Prelude.{◌^◌, ◌<◌, unsigned_abs};
+    ghost use Rattle.pair.specs.SignedPairs.{SignedPair, ◌upto◌};
 
-    // a - b.
-    pub fn difference(a: u64, b: u64) -> Self
-        ensures { result ≡ plain (sub_ℕ a b) }
-    {
-        if b <= a {
-            Integer {
-                below: false,
-                size: a - b,
-            }
-        } else {
-            Integer {
-                below: true,
-                size: b - a,
-            }
-        }
-    }
+    ghost Value = { SignedPair };
 
-    pub fn negated(self) -> Self
-        ensures { result ≡ plain (neg_ℤ (integer self)) }
-    {
-        Integer::of(!self.below, self.size)
-    }
+    ghost view = { λ a. a.lo upto a.hi };
 
-    pub fn plus(self, b: Integer) -> Self
-        requires { self.size + b.size < 2 ^ 64 }
-        ensures { result ≡ plain (integer self +ℤ integer b) }
-    {
-        let first = self.below;
-        let second = b.below;
-        if first {
-            if second {
-                return Integer::of(true, self.size + b.size);
-            }
-            return Integer::difference(b.size, self.size);
-        }
-        if second {
-            return Integer::difference(self.size, b.size);
-        }
-        Integer {
-            below: false,
-            size: self.size + b.size,
-        }
-    }
+    ghost invariant = { λ a. (unsigned_abs a.lo < 2 ^ 64) × (unsigned_abs a.hi < 2 ^ 64) };
 
-    pub fn at_most(self, b: Integer) -> bool
-        ensures { result ≡ leb_ℤ (integer self) (integer b) }
-    {
-        let first = self.below;
-        let second = b.below;
-        if first {
-            if second {
-                return b.size <= self.size;
-            }
-            return true;
-        }
-        if second {
-            if self.size == 0 {
-                return b.size == 0;
-            }
-            return false;
-        }
-        self.size <= b.size
-    }
-
-    pub fn least(self, b: Integer) -> Self
-        ensures { result ≡ plain (least (integer self) (integer b)) }
-    {
-        if self.at_most(b) {
-            Integer::of(self.below, self.size)
-        } else {
-            Integer::of(b.below, b.size)
-        }
-    }
-
-    pub fn greatest(self, b: Integer) -> Self
-        ensures { result ≡ plain (greatest (integer self) (integer b)) }
-    {
-        if self.at_most(b) {
-            Integer::of(b.below, b.size)
-        } else {
-            Integer::of(self.below, self.size)
-        }
-    }
-
-    // self * x / d rounded toward minus infinity.
-    pub fn floor_by(self, x: u64, d: u64) -> Self
-        requires { (0 < d) × (ceil_div (self.size * x) d < 2 ^ 64) }
-        ensures { result ≡ plain (floor_over (integer self *ℤ pos x) d) }
-    {
-        let below = self.below;
-        if below {
-            Integer::of(true, wide::ceil_at_scale(self.size, x, d))
-        } else {
-            Integer {
-                below: false,
-                size: wide::floor_at_scale(self.size, x, d),
-            }
-        }
-    }
-
-    // self * x / d rounded toward plus infinity.
-    pub fn ceil_by(self, x: u64, d: u64) -> Self
-        requires { (0 < d) × (ceil_div (self.size * x) d < 2 ^ 64) }
-        ensures { result ≡ plain (ceil_over (integer self *ℤ pos x) d) }
-    {
-        let below = self.below;
-        if below {
-            Integer::of(true, wide::floor_at_scale(self.size, x, d))
-        } else {
-            Integer {
-                below: false,
-                size: wide::ceil_at_scale(self.size, x, d),
-            }
-        }
-    }
-
-    // self * b / d rounded toward minus infinity.
-    pub fn floor_product(self, b: Integer, d: u64) -> Self
-        requires { (0 < d) × (ceil_div (self.size * b.size) d < 2 ^ 64) }
-        ensures { result ≡ plain (floor_over (integer self *ℤ integer b) d) }
-    {
-        let below = b.below;
-        if below {
-            self.negated().floor_by(b.size, d)
-        } else {
-            self.floor_by(b.size, d)
-        }
-    }
-
-    // self * b / d rounded toward plus infinity: toward minus infinity on the other side of zero.
-    pub fn ceil_product(self, b: Integer, d: u64) -> Self
-        requires { (0 < d) × (ceil_div (self.size * b.size) d < 2 ^ 64) }
-        ensures { result ≡ plain (ceil_over (integer self *ℤ integer b) d) }
-    {
-        self.negated().floor_product(b, d).negated()
-    }
+    ghost inverse = { λ a. record { lo = a.lo; hi = a.hi } };
 }
 
-// The least product of an end of a and an end of b, over s, rounded toward minus infinity.
-fn least_product(a: Signed, b: Signed, s: u64) -> Integer
-    requires { signed_times_fits s (meaning a) (meaning b) ≡ true }
-    ensures { result ≡ plain (signed_times s (meaning a) (meaning b)).lo }
+// a * b / d rounded toward minus infinity, worked in words by size and sign.
+#[tactic(auto, using(crate::proofs::IntegerRounding::by_sign))]
+pub fn floor_by(a: i128, b: i128, d: u64) -> i128
+    requires first { unsigned_abs a < 2 ^ 64 }
+    requires second { unsigned_abs b < 2 ^ 64 }
+    requires some { 0 < d }
+    requires fits { ceil_div (unsigned_abs a * unsigned_abs b) d < 2 ^ 64 }
+    ensures value { result ≡ floor_over (a *ℤ b) d }
+    ensures size { unsigned_abs result < 2 ^ 64 }
 {
-    let p = a.lo;
-    let q = a.hi;
-    let x = b.lo;
-    let y = b.hi;
-    let first = p.floor_product(x, s).least(p.floor_product(y, s));
-    let second = q.floor_product(x, s).least(q.floor_product(y, s));
-    first.least(second)
+    let size = a.unsigned_abs() as u64;
+    let times = b.unsigned_abs() as u64;
+    if (a < 0) == (b < 0) {
+        wide::at_scale::<Down>(size, times, d) as i128
+    } else {
+        -(wide::at_scale::<Up>(size, times, d) as i128)
+    }
+}
+
+// a * b / d rounded toward plus infinity: toward minus infinity on the other side of zero.
+#[tactic(auto, using(crate::proofs::Opposites::by_opposite))]
+pub fn ceil_by(a: i128, b: i128, d: u64) -> i128
+    requires first { unsigned_abs a < 2 ^ 64 }
+    requires second { unsigned_abs b < 2 ^ 64 }
+    requires some { 0 < d }
+    requires fits { ceil_div (unsigned_abs a * unsigned_abs b) d < 2 ^ 64 }
+    ensures value { result ≡ ceil_over (a *ℤ b) d }
+    ensures size { unsigned_abs result < 2 ^ 64 }
+{
+    -floor_by(-a, b, d)
+}
+
+impl From<Pair> for Signed {
+    ghost from_gives = { λ p a. a ≡ signed p };
+
+    #[tactic(auto, unfolding(crate::specs::SignedPairs::signed))]
+    fn from(p: Pair) -> Signed {
+        Signed {
+            lo: p.lo as i128,
+            hi: p.hi as i128,
+        }
+    }
 }
 
 impl Signed {
-    pub fn of(p: Pair) -> Self
-        ensures { result ≡ plain_pair (signed p) }
-    {
-        Signed {
-            lo: Integer {
-                below: false,
-                size: p.lo,
-            },
-            hi: Integer {
-                below: false,
-                size: p.hi,
-            },
-        }
-    }
-
     // p - q.
+    #[tactic(auto, unfolding(crate::specs::SignedPairs::difference))]
     pub fn between(p: Pair, q: Pair) -> Self
-        ensures { result ≡ plain_pair (difference p q) }
+        ensures { result ≡ difference p q }
     {
         Signed {
-            lo: Integer::difference(p.lo, q.hi),
-            hi: Integer::difference(p.hi, q.lo),
+            lo: p.lo as i128 - q.hi as i128,
+            hi: p.hi as i128 - q.lo as i128,
         }
     }
 
     // The ends change places.
-    fn negated(self) -> Self
-        ensures { result ≡ plain_pair (neg_ℤ (integer self.hi) upto neg_ℤ (integer self.lo)) }
+    #[tactic(auto, using(crate::proofs::Opposites::zero_less_steps), unfolding(crate::specs::SignedPairs::opposite))]
+    fn opposite(self) -> Self
+        ensures { result ≡ opposite self }
     {
-        let p = self.lo;
-        let q = self.hi;
         Signed {
-            lo: q.negated(),
-            hi: p.negated(),
+            lo: -self.hi,
+            hi: -self.lo,
         }
     }
 
+    #[tactic(auto, using(crate::proofs::SignedForms::sums), unfolding(crate::specs::SignedPairs::signed_plus))]
     pub fn plus(self, b: Signed) -> Self
-        requires { signed_plus_fits (meaning self) (meaning b) ≡ true }
-        ensures { result ≡ plain_pair (signed_plus (meaning self) (meaning b)) }
+        requires { signed_plus_fits self b ≡ true }
+        ensures { result ≡ signed_plus self b }
     {
-        let p = self.lo;
-        let q = self.hi;
         Signed {
-            lo: p.plus(b.lo),
-            hi: q.plus(b.hi),
+            lo: self.lo + b.lo,
+            hi: self.hi + b.hi,
         }
     }
 
+    #[tactic(auto, using(crate::proofs::SignedForms::sums), unfolding(crate::specs::SignedPairs::signed_minus))]
     pub fn minus(self, b: Signed) -> Self
-        requires { signed_plus_fits (meaning self) (meaning b) ≡ true }
-        ensures { result ≡ plain_pair (signed_minus (meaning self) (meaning b)) }
+        requires { signed_plus_fits self b ≡ true }
+        ensures { result ≡ signed_minus self b }
     {
-        self.plus(b.negated())
+        Signed {
+            lo: self.lo - b.hi,
+            hi: self.hi - b.lo,
+        }
     }
 
-    // By a pair, none of which is below zero: an end below zero takes the pair's other end.
+    // The lower end of the product with a pair, none of which is below zero: an end below zero takes the pair's upper end.
+    #[tactic(auto, using(crate::proofs::SignedForms::low_times))]
+    fn low_times(self, p: Pair, s: u64) -> i128
+        requires { signed_times_fits s self (signed p) ≡ true }
+        ensures value { result ≡ (signed_times s self (signed p)).lo }
+        ensures size { unsigned_abs result < 2 ^ 64 }
+    {
+        let end = if self.lo < 0 { p.hi } else { p.lo };
+        floor_by(self.lo, end as i128, s)
+    }
+
+    // The smaller product of x and an end, over s, rounded toward minus infinity.
+    #[tactic(auto, using(crate::proofs::SignedForms::least_of_two))]
+    fn least_by(self, x: i128, s: u64) -> i128
+        requires some { 0 < s }
+        requires first { unsigned_abs x < 2 ^ 64 }
+        requires fits { ceil_div (unsigned_abs x * reach self) s < 2 ^ 64 }
+        ensures value { result ≡ least (floor_over (x *ℤ self.lo) s) (floor_over (x *ℤ self.hi) s) }
+        ensures size { unsigned_abs result < 2 ^ 64 }
+    {
+        floor_by(x, self.lo, s).min(floor_by(x, self.hi, s))
+    }
+
+    // The lower end of the product, the least product of two ends.
+    #[tactic(auto, using(crate::proofs::SignedForms::low_product))]
+    fn low_times_signed(self, b: Signed, s: u64) -> i128
+        requires { signed_times_fits s self b ≡ true }
+        ensures value { result ≡ (signed_times s self b).lo }
+        ensures size { unsigned_abs result < 2 ^ 64 }
+    {
+        b.least_by(self.lo, s).min(b.least_by(self.hi, s))
+    }
+
+    // The lower end of the quotient by a pair above zero: an end below zero takes the pair's lower end.
+    #[tactic(auto, using(crate::proofs::SignedForms::low_over))]
+    fn low_over(self, q: Pair, s: u64) -> i128
+        requires { signed_over_fits s self q ≡ true }
+        ensures value { result ≡ (signed_over s self q).lo }
+        ensures size { unsigned_abs result < 2 ^ 64 }
+    {
+        let end = if self.lo < 0 { q.lo } else { q.hi };
+        floor_by(self.lo, s as i128, end)
+    }
+
+    // The upper end of each result is the lower one on the other side of zero.
+
+    #[tactic(auto, using(crate::proofs::SignedForms::highs))]
     pub fn times(self, p: Pair, s: u64) -> Self
-        requires { signed_times_fits s (meaning self) (signed p) ≡ true }
-        ensures { result ≡ plain_pair (signed_times s (meaning self) (signed p)) }
+        requires { signed_times_fits s self (signed p) ≡ true }
+        ensures { result ≡ signed_times s self (signed p) }
     {
-        let a = self.lo;
-        let b = self.hi;
         Signed {
-            lo: a.floor_by(wide::pick(a.below, p.hi, p.lo), s),
-            hi: b.ceil_by(wide::pick(b.below, p.lo, p.hi), s),
+            lo: self.low_times(p, s),
+            hi: -self.opposite().low_times(p, s),
         }
     }
 
-    // The greatest product is the least one on the other side of zero.
+    #[tactic(auto, using(crate::proofs::SignedForms::highs))]
     pub fn times_signed(self, b: Signed, s: u64) -> Self
-        requires { signed_times_fits s (meaning self) (meaning b) ≡ true }
-        ensures { result ≡ plain_pair (signed_times s (meaning self) (meaning b)) }
+        requires { signed_times_fits s self b ≡ true }
+        ensures { result ≡ signed_times s self b }
     {
         Signed {
-            lo: least_product(self, b, s),
-            hi: least_product(self.negated(), b, s).negated(),
+            lo: self.low_times_signed(b, s),
+            hi: -self.opposite().low_times_signed(b, s),
         }
     }
 
+    #[tactic(auto, using(crate::proofs::SignedForms::highs))]
     pub fn over(self, q: Pair, s: u64) -> Self
-        requires { signed_over_fits s (meaning self) q ≡ true }
-        ensures { result ≡ plain_pair (signed_over s (meaning self) q) }
+        requires { signed_over_fits s self q ≡ true }
+        ensures { result ≡ signed_over s self q }
     {
-        let a = self.lo;
-        let b = self.hi;
         Signed {
-            lo: a.floor_by(s, wide::pick(a.below, q.lo, q.hi)),
-            hi: b.ceil_by(s, wide::pick(b.below, q.hi, q.lo)),
+            lo: self.low_over(q, s),
+            hi: -self.opposite().low_over(q, s),
         }
     }
 
     // In a unit k times as large.
+    #[tactic(auto, using(crate::proofs::SignedForms::coarsened), unfolding(crate::specs::SignedPairs::coarser))]
     pub fn coarser(self, k: u64) -> Self
         requires { 0 < k }
-        ensures { result ≡ plain_pair (coarser k (meaning self)) }
+        ensures { result ≡ coarser k self }
     {
-        let a = self.lo;
-        let b = self.hi;
         Signed {
-            lo: a.floor_by(1, k),
-            hi: b.ceil_by(1, k),
+            lo: floor_by(self.lo, 1, k),
+            hi: ceil_by(self.hi, 1, k),
         }
     }
 }

@@ -1,181 +1,120 @@
-// Quotients of a product of two u64, which has 128 bits, where no type is that wide.
-ghost use Rattle.std.specs.Prelude.{◌≡◌, cond, ◌+◌, ◌*◌, ◌/◌, ◌^◌, ◌<◌, min};
+// Quotients of a product of two u64, which has 128 bits. A processor divides 64 bits in far less time than
+// 128, so these are left to the few products that need them.
+ghost use Rattle.std.specs.Prelude.{◌≡◌, ℕ, ◌+◌, ◌*◌, ◌/◌, ◌%◌, ◌^◌, ◌<◌, min};
 ghost use Rattle.pair.specs.Rounding.{ceil_div};
-ghost use Rattle.pair.specs.Remainders.{Split};
+ghost use Rattle.pair.specs.RoundingLaws.{floor_div, RoundingLaws, down_laws, up_laws};
 
-// A quotient with its remainder.
-#[derive(Clone, Copy)]
-pub struct Divided {
-    pub quotient: u64,
-    pub rest: u64,
+// A way to round a quotient to a whole number.
+pub trait Rounding {
+    // n / d, rounded
+    ghost over: { ℕ → ℕ → ℕ };
+
+    // what a remainder adds to the whole part
+    ghost added: { ℕ → ℕ };
+
+    ghost laws: { RoundingLaws over added };
+
+    fn added(rest: u64) -> u64
+        ensures { result ≡ added rest };
 }
 
-// a or b, without a branch: where no branch can be foreseen, as for a root's bits.
-pub fn pick(c: bool, a: u64, b: u64) -> u64
-    ensures { result ≡ cond c a b }
-{
-    if c { a } else { b }
+// To the whole number below.
+pub struct Down;
+
+// To the whole number above.
+pub struct Up;
+
+impl Rounding for Down {
+    ghost over = { floor_div };
+
+    ghost added = { λ rest. 0 };
+
+    ghost laws = { down_laws };
+
+    fn added(_rest: u64) -> u64 {
+        0
+    }
 }
 
-pub fn lesser(a: u64, b: u64) -> u64
-    ensures { result ≡ min a b }
-{
-    if a <= b { a } else { b }
+impl Rounding for Up {
+    ghost over = { ceil_div };
+
+    ghost added = { λ rest. min 1 rest };
+
+    ghost laws = { up_laws };
+
+    fn added(rest: u64) -> u64 {
+        rest.min(1)
+    }
 }
 
-// The upper 64 bits of a * b, from products of halves of 32 bits added column by column.
+// The upper 64 bits of a * b.
 pub fn high(a: u64, b: u64) -> u64
     ensures { result ≡ a * b / 2 ^ 64 }
 {
-    let a0 = a % 0x1_0000_0000;
-    let a1 = a / 0x1_0000_0000;
-    let b0 = b % 0x1_0000_0000;
-    let b1 = b / 0x1_0000_0000;
-    let middle = a1 * b0 + a0 * b0 / 0x1_0000_0000;
-    let next = a0 * b1 + middle % 0x1_0000_0000;
-    a1 * b1 + middle / 0x1_0000_0000 + next / 0x1_0000_0000
+    ((a as u128 * b as u128) >> 64) as u64
 }
 
-// The remainder grows by x, which may carry one into the quotient.
-fn carried(q: u64, r: u64, x: u64, d: u64) -> Divided
-    requires { (q + 1 < 2 ^ 64) × (r < d) × (x < d) }
-    ensures { Split (q * d + r + x) d result.quotient result.rest }
-{
-    let gap = d - x;
-    if gap <= r {
-        Divided {
-            quotient: q + 1,
-            rest: r - gap,
-        }
-    } else {
-        Divided {
-            quotient: q,
-            rest: r + x,
-        }
-    }
-}
-
-// x * y by d, one bit of y after the other from the top: for the few products that need it.
-fn by_bits(x: u64, y: u64, d: u64) -> Divided
-    requires { x < d }
-    ensures { Split (x * y) d result.quotient result.rest }
-{
-    if y == 0 {
-        return Divided {
-            quotient: 0,
-            rest: 0,
-        };
-    }
-    let t = by_bits(x, y / 2, d);
-    let u = carried(t.quotient + t.quotient, t.rest, t.rest, d);
-    if y % 2 == 0 {
-        u
-    } else {
-        carried(u.quotient, u.rest, x, d)
-    }
-}
-
-// x * y by d, for x below d: at once where the product fits a word.
-fn reduced(x: u64, y: u64, d: u64) -> Divided
-    requires { x < d }
-    ensures { Split (x * y) d result.quotient result.rest }
-{
-    if high(x, y) == 0 {
-        let n = x * y;
-        Divided {
-            quotient: n / d,
-            rest: n % d,
-        }
-    } else {
-        by_bits(x, y, d)
-    }
-}
-
-// a * b by d, a being taken apart as a / d * d + a % d: for a product that passes a word.
-fn parts_by(a: u64, b: u64, d: u64) -> Divided
-    requires { (0 < d) × (a * b / d < 2 ^ 64) }
-    ensures { Split (a * b) d result.quotient result.rest }
-{
-    let t = reduced(a % d, b, d);
-    Divided {
-        quotient: a / d * b + t.quotient,
-        rest: t.rest,
-    }
-}
-
-// a * b by d.
-pub fn product_by(a: u64, b: u64, d: u64) -> Divided
-    requires { (0 < d) × (a * b / d < 2 ^ 64) }
-    ensures { Split (a * b) d result.quotient result.rest }
-{
-    if high(a, b) == 0 {
-        let n = a * b;
-        return Divided {
-            quotient: n / d,
-            rest: n % d,
-        };
-    }
-    parts_by(a, b, d)
-}
-
-// a * b / d rounded down.
-pub fn floor_of(a: u64, b: u64, d: u64) -> u64
-    requires { (0 < d) × (a * b / d < 2 ^ 64) }
-    ensures { result ≡ a * b / d }
-{
-    product_by(a, b, d).quotient
-}
-
-// n / d rounded up: one more than (n - 1) / d, but 0 of 0. A remainder would take longer.
-pub fn up(n: u64, d: u64) -> u64
+// n / d rounded.
+pub fn quotient<R: Rounding>(n: u64, d: u64) -> u64
     requires { 0 < d }
-    ensures { result ≡ ceil_div n d }
+    ensures { result ≡ R.over n d }
 {
-    let one = pick(n == 0, 0, 1);
-    (n - one) / d + one
+    n / d + R::added(n % d)
 }
 
-// a * b / d rounded up.
-pub fn ceil_of(a: u64, b: u64, d: u64) -> u64
-    requires { (0 < d) × (ceil_div (a * b) d < 2 ^ 64) }
-    ensures { result ≡ ceil_div (a * b) d }
+// x * b by d and what is left, for x below d.
+fn reduced(x: u64, b: u64, d: u64) -> (u64, u64)
+    requires { x < d }
+    ensures whole { result.0 ≡ x * b / d }
+    ensures rest { result.1 ≡ x * b % d }
 {
-    if high(a, b) == 0 {
-        return up(a * b, d);
+    let product = x as u128 * b as u128;
+    if product <= u64::MAX as u128 {
+        let n = product as u64;
+        return (n / d, n % d);
     }
-    let t = parts_by(a, b, d);
-    if t.rest == 0 {
-        t.quotient
-    } else {
-        t.quotient + 1
-    }
+    ((product / d as u128) as u64, (product % d as u128) as u64)
 }
 
-// a * b / s rounded down, for a scale s. The scales of sheets are written out: by a constant the processor
-// divides in less time.
-pub fn floor_at_scale(a: u64, b: u64, s: u64) -> u64
-    requires { (0 < s) × (a * b / s < 2 ^ 64) }
-    ensures { result ≡ a * b / s }
+// a * b by d and what is left. Where a * b passes a word, a is taken apart as a / d * d + a % d.
+#[tactic(auto, using(crate::proofs::Quotients::whole_apart, crate::proofs::Quotients::rest_apart))]
+pub fn product_by(a: u64, b: u64, d: u64) -> (u64, u64)
+    requires some { 0 < d }
+    requires fits { a * b / d < 2 ^ 64 }
+    ensures whole { result.0 ≡ a * b / d }
+    ensures rest { result.1 ≡ a * b % d }
 {
-    if s == 1_000_000 {
-        return floor_of(a, b, 1_000_000);
+    let product = a as u128 * b as u128;
+    if product <= u64::MAX as u128 {
+        let n = product as u64;
+        return (n / d, n % d);
     }
-    if s == 10_000_000 {
-        return floor_of(a, b, 10_000_000);
-    }
-    floor_of(a, b, s)
+    let (quotient, rest) = reduced(a % d, b, d);
+    (a / d * b + quotient, rest)
 }
 
-// The same rounded up.
-pub fn ceil_at_scale(a: u64, b: u64, s: u64) -> u64
-    requires { (0 < s) × (ceil_div (a * b) s < 2 ^ 64) }
-    ensures { result ≡ ceil_div (a * b) s }
+// a * b / d rounded.
+pub fn by<R: Rounding>(a: u64, b: u64, d: u64) -> u64
+    requires some { 0 < d }
+    requires fits { R.over (a * b) d < 2 ^ 64 }
+    ensures { result ≡ R.over (a * b) d }
 {
-    if s == 1_000_000 {
-        return ceil_of(a, b, 1_000_000);
+    let (quotient, rest) = product_by(a, b, d);
+    quotient + R::added(rest)
+}
+
+// a * b / s rounded, for a scale s. The scales of sheets are written out: by a constant the processor divides
+// in less time. Called, and not put in place, so that `Pair::times` can be.
+#[inline(never)]
+pub fn at_scale<R: Rounding>(a: u64, b: u64, s: u64) -> u64
+    requires some { 0 < s }
+    requires fits { R.over (a * b) s < 2 ^ 64 }
+    ensures { result ≡ R.over (a * b) s }
+{
+    match s {
+        1_000_000 => by::<R>(a, b, 1_000_000),
+        10_000_000 => by::<R>(a, b, 10_000_000),
+        _ => by::<R>(a, b, s),
     }
-    if s == 10_000_000 {
-        return ceil_of(a, b, 10_000_000);
-    }
-    ceil_of(a, b, s)
 }

@@ -10,14 +10,24 @@ ghost use Rattle.pair.specs.Remainders.{Split, SquareRooted, CubeRooted};
 ghost use Rattle.pair.specs.Pairs.{◌to◌, exact, ratio, plus, minus, times, over, root, cube_root, smaller};
 ghost use Rattle.pair.specs.Fits.{ratio_fits, plus_fits, minus_fits, times_fits, over_fits, times_ratio_fits, over_ratio_fits, root_fits, cube_root_fits};
 
-use pair::{Pair, TwoPairs, roots, wide};
+use pair::roots::{Cube, Square};
+use pair::wide::{Down, Up};
+use pair::{Pair, wide};
 
 // A quotient or a root with what is left over.
 #[repr(C)]
-#[derive(Clone, Copy)]
+#[derive(Clone, Copy, Debug, PartialEq, Eq)]
 pub struct Part {
     pub whole: u64,
     pub rest: u64,
+}
+
+// Two pairs, worked side by side.
+#[repr(C)]
+#[derive(Clone, Copy, Debug, PartialEq, Eq)]
+pub struct TwoPairs {
+    pub one: Pair,
+    pub two: Pair,
 }
 
 #[unsafe(no_mangle)]
@@ -29,37 +39,37 @@ pub extern "C" fn pair_high(a: u64, b: u64) -> u64
 
 #[unsafe(no_mangle)]
 pub extern "C" fn pair_product_by(a: u64, b: u64, d: u64) -> Part
-    requires { (0 < d) × (a * b / d < 2 ^ 64) }
+    requires some { 0 < d }
+    requires fits { a * b / d < 2 ^ 64 }
     ensures { Split (a * b) d result.whole result.rest }
 {
-    let t = wide::product_by(a, b, d);
-    Part {
-        whole: t.quotient,
-        rest: t.rest,
-    }
+    let (whole, rest) = wide::product_by(a, b, d);
+    Part { whole, rest }
 }
 
 #[unsafe(no_mangle)]
 pub extern "C" fn pair_floor_of(a: u64, b: u64, d: u64) -> u64
-    requires { (0 < d) × (a * b / d < 2 ^ 64) }
+    requires some { 0 < d }
+    requires fits { a * b / d < 2 ^ 64 }
     ensures { result ≡ a * b / d }
 {
-    wide::floor_of(a, b, d)
+    wide::by::<Down>(a, b, d)
 }
 
 #[unsafe(no_mangle)]
 pub extern "C" fn pair_ceil_of(a: u64, b: u64, d: u64) -> u64
-    requires { (0 < d) × (ceil_div (a * b) d < 2 ^ 64) }
+    requires some { 0 < d }
+    requires fits { ceil_div (a * b) d < 2 ^ 64 }
     ensures { result ≡ ceil_div (a * b) d }
 {
-    wide::ceil_of(a, b, d)
+    wide::by::<Up>(a, b, d)
 }
 
 #[unsafe(no_mangle)]
 pub extern "C" fn pair_square_of(n: u64) -> Part
     ensures { SquareRooted n result.whole result.rest }
 {
-    let t = roots::square_of(n);
+    let t = Square::of(n);
     Part {
         whole: t.root,
         rest: t.rest,
@@ -70,7 +80,7 @@ pub extern "C" fn pair_square_of(n: u64) -> Part
 pub extern "C" fn pair_cube_of(n: u64) -> Part
     ensures { CubeRooted n result.whole (3 * (result.whole * result.whole)) result.rest }
 {
-    let t = roots::cube_of(n);
+    let t = Cube::of(n);
     Part {
         whole: t.root,
         rest: t.rest,
@@ -173,15 +183,21 @@ pub extern "C" fn pair_root(lo: u64, hi: u64, s: u64) -> Pair
 
 #[unsafe(no_mangle)]
 pub extern "C" fn pair_roots(lo: u64, hi: u64, least: u64, most: u64, s: u64) -> TwoPairs
-    requires { (root_fits s (lo to hi) ≡ true) × (root_fits s (least to most) ≡ true) }
-    ensures { (result.one ≡ root s (lo to hi)) × (result.two ≡ root s (least to most)) }
+    requires one { root_fits s (lo to hi) ≡ true }
+    requires two { root_fits s (least to most) ≡ true }
+    ensures one { result.one ≡ root s (lo to hi) }
+    ensures two { result.two ≡ root s (least to most) }
 {
     let p = Pair { lo, hi };
     let q = Pair {
         lo: least,
         hi: most,
     };
-    p.roots(q, s)
+    let both = p.roots(q, s);
+    TwoPairs {
+        one: both.one,
+        two: both.two,
+    }
 }
 
 #[unsafe(no_mangle)]

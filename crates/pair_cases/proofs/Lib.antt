@@ -1,1 +1,2 @@
 mod Formula
+pub mod Tested

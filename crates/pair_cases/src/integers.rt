@@ -1,101 +1,72 @@
 // Cases of integers and of signed pairs.
-use crate::print::Outcome;
-use crate::{Operands, print};
+use crate::outcome::Outcome;
 use pair::Pair;
-use pair::signed::{Integer, Signed};
-use std::io;
+use pair::signed::Signed;
 
-fn integer_plus(x: Integer, y: Integer) -> Outcome {
-    if pair_checked::sizes_fit(x, y) {
-        return Outcome::Integer(x.plus(y));
-    }
-    Outcome::NotApplied
+fn ends(a: Signed) -> Outcome {
+    Outcome::SignedEnds(a.lo, a.hi)
 }
 
-fn plus(a: Signed, b: Signed) -> Outcome {
-    if pair_checked::signed_plus_fits(a, b) {
-        return Outcome::SignedEnds(a.plus(b));
-    }
-    Outcome::NotApplied
+#[tactic(auto, using(crate::proofs::Tested::sums))]
+fn integer_plus(x: i128, y: i128) -> Option<Outcome> {
+    pair_checked::sizes_fit(x, y).then(|| Outcome::Integer(x + y))
 }
 
-fn minus(a: Signed, b: Signed) -> Outcome {
-    if pair_checked::signed_plus_fits(a, b) {
-        return Outcome::SignedEnds(a.minus(b));
-    }
-    Outcome::NotApplied
+fn plus(a: Signed, b: Signed) -> Option<Outcome> {
+    pair_checked::signed_plus_fits(a, b).then(|| ends(a.plus(b)))
 }
 
-fn times(a: Signed, p: Pair, s: u64) -> Outcome {
-    if pair_checked::signed_times_pair_fits(a, p, s) {
-        return Outcome::SignedEnds(a.times(p, s));
-    }
-    Outcome::NotApplied
+fn minus(a: Signed, b: Signed) -> Option<Outcome> {
+    pair_checked::signed_plus_fits(a, b).then(|| ends(a.minus(b)))
 }
 
-fn times_signed(a: Signed, b: Signed, s: u64) -> Outcome {
-    if pair_checked::signed_times_fits(a, b, s) {
-        return Outcome::SignedEnds(a.times_signed(b, s));
-    }
-    Outcome::NotApplied
+fn times(a: Signed, p: Pair, s: u64) -> Option<Outcome> {
+    pair_checked::signed_times_pair_fits(a, p, s).then(|| ends(a.times(p, s)))
 }
 
-fn over(a: Signed, q: Pair, s: u64) -> Outcome {
-    if pair_checked::signed_over_fits(a, q, s) {
-        return Outcome::SignedEnds(a.over(q, s));
-    }
-    Outcome::NotApplied
+fn times_signed(a: Signed, b: Signed, s: u64) -> Option<Outcome> {
+    pair_checked::signed_times_fits(a, b, s).then(|| ends(a.times_signed(b, s)))
 }
 
-fn coarser(a: Signed, k: u64) -> Outcome {
-    if 0 < k {
-        return Outcome::SignedEnds(a.coarser(k));
-    }
-    Outcome::NotApplied
+fn over(a: Signed, q: Pair, s: u64) -> Option<Outcome> {
+    pair_checked::signed_over_fits(a, q, s).then(|| ends(a.over(q, s)))
 }
 
-// Integers, and the signed pairs that come of pairs.
-pub fn run(rt: &impl Print, letter: u8, o: Operands) -> io::Result<()> {
-    let x = o.a;
-    let y = o.b;
+fn coarser(a: Signed, k: u64) -> Option<Outcome> {
+    (0 < k).then(|| ends(a.coarser(k)))
+}
+
+// The operation that the line's letter names, and what it gives, where it applies.
+pub fn given(line: &str) -> Option<(&'static str, Option<Outcome>)> {
+    let x = cases::integer(line, 1);
+    let y = cases::integer(line, 2);
+    let a = Signed { lo: x, hi: y };
+    let b = Signed {
+        lo: cases::integer(line, 3),
+        hi: cases::integer(line, 4),
+    };
     let p = Pair {
-        lo: x.size,
-        hi: y.size,
+        lo: cases::number(line, 1),
+        hi: cases::number(line, 2),
     };
     let q = Pair {
-        lo: o.c.size,
-        hi: o.d.size,
+        lo: cases::number(line, 3),
+        hi: cases::number(line, 4),
     };
-    match letter {
-        b'F' => print::line(rt, b"of", Outcome::SignedEnds(Signed::of(p))),
-        b'B' => print::line(rt, b"between", Outcome::SignedEnds(Signed::between(p, q))),
-        b'A' => print::line(rt, b"integer_plus", integer_plus(x, y)),
-        b'L' => print::line(rt, b"at_most", Outcome::Truth(x.at_most(y))),
-        b'I' => print::line(rt, b"least", Outcome::Integer(x.least(y))),
-        b'G' => print::line(rt, b"greatest", Outcome::Integer(x.greatest(y))),
-        _ => Ok(()),
-    }
-}
-
-pub fn run_signed(rt: &impl Print, letter: u8, o: Operands) -> io::Result<()> {
-    let x = o.a;
-    let y = o.b;
-    let z = o.c;
-    let w = o.d;
-    let s = o.e.size;
-    let a = Signed { lo: x, hi: y };
-    let b = Signed { lo: z, hi: w };
-    let p = Pair {
-        lo: z.size,
-        hi: w.size,
-    };
-    match letter {
-        b'P' => print::line(rt, b"signed_plus", plus(a, b)),
-        b'M' => print::line(rt, b"signed_minus", minus(a, b)),
-        b'T' => print::line(rt, b"signed_times", times(a, p, s)),
-        b'X' => print::line(rt, b"times_signed", times_signed(a, b, s)),
-        b'O' => print::line(rt, b"signed_over", over(a, p, s)),
-        b'C' => print::line(rt, b"coarser", coarser(a, z.size)),
-        _ => Ok(()),
+    let s = cases::number(line, 5);
+    match cases::letter(line)? {
+        'F' => Some(("of", Some(ends(Signed::from(p))))),
+        'B' => Some(("between", Some(ends(Signed::between(p, q))))),
+        'A' => Some(("integer_plus", integer_plus(x, y))),
+        'L' => Some(("at_most", Some(Outcome::Whole((x <= y) as u64)))),
+        'I' => Some(("least", Some(Outcome::Integer(x.min(y))))),
+        'G' => Some(("greatest", Some(Outcome::Integer(x.max(y))))),
+        'P' => Some(("signed_plus", plus(a, b))),
+        'M' => Some(("signed_minus", minus(a, b))),
+        'T' => Some(("signed_times", times(a, q, s))),
+        'X' => Some(("times_signed", times_signed(a, b, s))),
+        'O' => Some(("signed_over", over(a, q, s))),
+        'C' => Some(("coarser", coarser(a, q.lo))),
+        _ => None,
     }
 }

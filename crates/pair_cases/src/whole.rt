@@ -1,52 +1,49 @@
 // Cases of wide quotients and of whole roots.
-use crate::print::Outcome;
-use crate::{Operands, print};
-use pair::{Pair, roots, wide};
-use std::io;
+use crate::outcome::Outcome;
+use pair::roots::{Cube, Square};
+use pair::wide::{Down, Up};
+use pair::{Pair, wide};
 
-fn floor_of(a: u64, b: u64, d: u64) -> Outcome {
-    if pair_checked::floor_fits(a, b, d) {
-        return Outcome::Whole(wide::floor_of(a, b, d));
-    }
-    Outcome::NotApplied
+#[tactic(auto, using(crate::proofs::Tested::quotients))]
+fn floor_of(a: u64, b: u64, d: u64) -> Option<Outcome> {
+    pair_checked::floor_fits(a, b, d).then(|| Outcome::Whole(wide::by::<Down>(a, b, d)))
 }
 
-fn ceil_of(a: u64, b: u64, d: u64) -> Outcome {
-    if pair_checked::ceil_fits(a, b, d) {
-        return Outcome::Whole(wide::ceil_of(a, b, d));
-    }
-    Outcome::NotApplied
+#[tactic(auto, using(crate::proofs::Tested::quotients))]
+fn ceil_of(a: u64, b: u64, d: u64) -> Option<Outcome> {
+    pair_checked::ceil_fits(a, b, d).then(|| Outcome::Whole(wide::by::<Up>(a, b, d)))
 }
 
 fn square_of(n: u64) -> Outcome {
-    let t = roots::square_of(n);
+    let t = Square::of(n);
     Outcome::Rooted(t.root, t.rest)
 }
 
-fn scaled_square(v: u64, s: u64) -> Outcome {
-    if pair_checked::root_fits(Pair::exact(v), s) {
-        let t = roots::scaled_square(v, s);
-        return Outcome::Rooted(t.root, t.rest);
-    }
-    Outcome::NotApplied
+#[tactic(auto, using(crate::proofs::Tested::roots))]
+fn scaled_square(v: u64, s: u64) -> Option<Outcome> {
+    pair_checked::root_fits(Pair::exact(v), s).then(|| {
+        let t = Square::scaled(v, s);
+        Outcome::Rooted(t.root, t.rest)
+    })
 }
 
 fn cube_of(n: u64) -> Outcome {
-    let t = roots::cube_of(n);
+    let t = Cube::of(n);
     Outcome::Rooted(t.root, t.rest)
 }
 
-pub fn run(rt: &impl Print, letter: u8, o: Operands) -> io::Result<()> {
-    let a = o.a.size;
-    let b = o.b.size;
-    let d = o.c.size;
-    match letter {
-        b'h' => print::line(rt, b"high", Outcome::Whole(wide::high(a, b))),
-        b'f' => print::line(rt, b"floor_of", floor_of(a, b, d)),
-        b'g' => print::line(rt, b"ceil_of", ceil_of(a, b, d)),
-        b'q' => print::line(rt, b"square_of", square_of(a)),
-        b's' => print::line(rt, b"scaled_square", scaled_square(a, b)),
-        b'k' => print::line(rt, b"cube_of", cube_of(a)),
-        _ => Ok(()),
+// The operation that the line's letter names, and what it gives, where it applies.
+pub fn given(line: &str) -> Option<(&'static str, Option<Outcome>)> {
+    let a = cases::number(line, 1);
+    let b = cases::number(line, 2);
+    let d = cases::number(line, 3);
+    match cases::letter(line)? {
+        'h' => Some(("high", Some(Outcome::Whole(wide::high(a, b))))),
+        'f' => Some(("floor_of", floor_of(a, b, d))),
+        'g' => Some(("ceil_of", ceil_of(a, b, d))),
+        'q' => Some(("square_of", Some(square_of(a)))),
+        's' => Some(("scaled_square", scaled_square(a, b))),
+        'k' => Some(("cube_of", Some(cube_of(a)))),
+        _ => None,
     }
 }

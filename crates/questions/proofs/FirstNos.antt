@@ -1,5 +1,6 @@
 -- Questions in order, and their claims with the lines that they name: the first "no" is found exactly where there is a reason. Over any type R of
 -- refusals, of which `told` says what is answered.
+use Rattle.std.specs.Prelude.{Result, Ok, Err}
 use Prim.Native.Nat.{ℕ, zero, suc, ◌+◌, ◌-◌, ◌<◌}
 use mathlib.Core.Path.{◌≡◌, refl, sym, ap, ◌∙◌, subst}
 use mathlib.Core.Logic.{◌⊎◌, inl, inr, ◌↔◌}
@@ -9,7 +10,7 @@ use lib.ListN.{length, take, get_or}
 use Rattle.questions.specs.declared.Answer.{Answer}
 use Rattle.questions.specs.Claims.{Claim, Holds}
 use Rattle.questions.specs.Answers.{answer}
-use Rattle.questions.specs.Asking.{Asked, ◌else◌, asked_from, Finding, refusal, met, ◌then◌, first_of, first_in}
+use Rattle.questions.specs.Asking.{Asked, ◌else◌, asked_from, ◌then◌, first_of, first_in}
 use Rattle.questions.specs.Reasons.{Lined, ◌at_line◌, lined_from, So, AllSo, FirstNo, place, length_reported, Reason, FoundAs}
 use Rattle.questions.proofs.Tests.{decided, Holds-test, fails_test}
 
@@ -26,50 +27,50 @@ module _ {R : Type 0} where
 
   -- one question
 
-  pub All-when_met : (cs : List (Asked R)) → first_of cs ≡ met → All cs
+  pub All-when_met : (cs : List (Asked R)) → first_of cs ≡ Ok tt → All cs
   unfolding first_of
   All-when_met [] e = tt
   All-when_met ((a else r) ∷ cs) e =
       elim (decided a) [
         | inl p ↦ (p.0, All-when_met cs (rw p.1 at e))
-        | inr p ↦ let e' : refusal r ≡ met = rw p.1 at e in let z : ◌≡◌ {A = ℕ} 0 1 = cc in absurd (omega arith)
+        | inr p ↦ let e' : Err r ≡ Ok tt = rw p.1 at e in let z : ◌≡◌ {A = ℕ} 0 1 = cc in absurd (omega arith)
       ]
 
-  pub met_when_all : (cs : List (Asked R)) → All cs → first_of cs ≡ met
+  pub met_when_all : (cs : List (Asked R)) → All cs → first_of cs ≡ Ok tt
   unfolding first_of
   met_when_all [] h = refl
   met_when_all ((a else r) ∷ cs) h = rw (Holds-test a h.0) (met_when_all cs h.1)
 
-  pub no_when_refused : (cs : List (Asked R)) (r : R) → first_of cs ≡ refusal r → NoAt cs r
+  pub no_when_refused : (cs : List (Asked R)) (r : R) → first_of cs ≡ Err r → NoAt cs r
   unfolding first_of
   no_when_refused [] r e = let z : ◌≡◌ {A = ℕ} 0 1 = cc in absurd (omega arith)
   no_when_refused ((a else r₀) ∷ cs) r e =
       elim (decided a) [
         | inl p ↦ inr (p.0, no_when_refused cs r (rw p.1 at e))
-        | inr p ↦ let e' : refusal r₀ ≡ refusal r = rw p.1 at e in inl (p.0, cc)
+        | inr p ↦ let e' : Err r₀ ≡ Err r = rw p.1 at e in inl (p.0, cc)
       ]
 
-  pub refused_when_no : (cs : List (Asked R)) (r : R) → NoAt cs r → first_of cs ≡ refusal r
+  pub refused_when_no : (cs : List (Asked R)) (r : R) → NoAt cs r → first_of cs ≡ Err r
   unfolding first_of
   refused_when_no [] r n = absurd n
-  refused_when_no ((a else r₀) ∷ cs) r (inl p) = rw (fails_test a p.0) (ap refusal p.1)
+  refused_when_no ((a else r₀) ∷ cs) r (inl p) = rw (fails_test a p.0) (ap Err p.1)
   refused_when_no ((a else r₀) ∷ cs) r (inr p) = rw (Holds-test a p.0) (refused_when_no cs r p.1)
 
-  then_met : (f g : Finding R) → (f then g) ≡ met → (f ≡ met) × (g ≡ met)
-  then_met met g e = (refl, e)
-  then_met (refusal r) g e = let z : ◌≡◌ {A = ℕ} 0 1 = cc in absurd (omega arith)
+  then_met : (f g : Result Unit R) → (f then g) ≡ Ok tt → (f ≡ Ok tt) × (g ≡ Ok tt)
+  then_met (Ok tt) g e = (refl, e)
+  then_met (Err r) g e = let z : ◌≡◌ {A = ℕ} 0 1 = cc in absurd (omega arith)
 
-  then_refused : (f g : Finding R) (r : R) → (f then g) ≡ refusal r → (f ≡ refusal r) ⊎ ((f ≡ met) × (g ≡ refusal r))
-  then_refused met g r e = inr (refl, e)
-  then_refused (refusal r₀) g r e = inl e
+  then_refused : (f g : Result Unit R) (r : R) → (f then g) ≡ Err r → (f ≡ Err r) ⊎ ((f ≡ Ok tt) × (g ≡ Err r))
+  then_refused (Ok tt) g r e = inr (refl, e)
+  then_refused (Err r₀) g r e = inl e
 
   -- a question, and those behind it
   module _ (cs : List (Asked R)) (qs : List (List (Asked R))) where
-    pub first_refuses : {r : R} → first_of cs ≡ refusal r → first_in (cs ∷ qs) ≡ refusal r
+    pub first_refuses : {r : R} → first_of cs ≡ Err r → first_in (cs ∷ qs) ≡ Err r
     unfolding first_in
     first_refuses e = rw e
 
-    pub first_passes : first_of cs ≡ met → first_in (cs ∷ qs) ≡ first_in qs
+    pub first_passes : first_of cs ≡ Ok tt → first_in (cs ∷ qs) ≡ first_in qs
     unfolding first_in
     first_passes e = rw e
 
@@ -174,7 +175,7 @@ module _ {R : Type 0} (refusal_answer : R → Answer) (needed : ℕ) where
       (x.0, inr (subst Holds (sym t.0) p.0, x.1), x.2)
 
   -- no refusal is found exactly where all claims are so
-  pub met_when_so : (k : ℕ) (qs : List (List (Asked R))) (ls : List (List Lined)) → ToldFrom k qs ls → (first_in qs ≡ met) ↔ AllSo ls
+  pub met_when_so : (k : ℕ) (qs : List (List (Asked R))) (ls : List (List Lined)) → ToldFrom k qs ls → (first_in qs ≡ Ok tt) ↔ AllSo ls
   unfolding first_in
   met_when_so k [] [] t = (λ e. tt, λ h. refl)
   met_when_so k [] (l ∷ ls) t = absurd t
@@ -194,7 +195,7 @@ module _ {R : Type 0} (refusal_answer : R → Answer) (needed : ℕ) where
     first : FirstNo (get_or ls i []) line
     tells : refusal_answer r ≡ telling (k + i) line
 
-  At-when_refused : (k : ℕ) (qs : List (List (Asked R))) (ls : List (List Lined)) (r : R) → ToldFrom k qs ls → first_in qs ≡ refusal r
+  At-when_refused : (k : ℕ) (qs : List (List (Asked R))) (ls : List (List Lined)) (r : R) → ToldFrom k qs ls → first_in qs ≡ Err r
       → (i : ℕ) × (line : ℕ) × At k ls r i line
   unfolding first_in
   At-when_refused k [] ls r t e = let z : ◌≡◌ {A = ℕ} 0 1 = cc in absurd (omega arith)

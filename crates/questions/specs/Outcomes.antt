@@ -1,10 +1,10 @@
 -- What a call does that may write a text into a buffer, what it answers, and what the buffer is afterwards. (docs/WORKING.md, 15.)
-use Rattle.std.specs.Prelude.{ℕ, List, [], ◌∷◌, length}
+use Rattle.std.specs.Prelude.{ℕ, List, [], ◌∷◌, length, Result, Ok, Err}
 use Rattle.questions.specs.Buffers.{over}
 use Rattle.questions.specs.declared.Answer.{Answer}
 use Rattle.questions.specs.Claims.{◌≤?◌}
-use Rattle.questions.specs.Answers.{answer}
-use Rattle.questions.specs.Asking.{Asked, ◌else◌, Finding, refusal, met, first_of}
+use Rattle.questions.specs.Answers.{answered}
+use Rattle.questions.specs.Asking.{Asked, ◌else◌, first_of}
 
 -- it refuses, or this text is written
 pub data Outcome (R : Type 0) : Type 0 where
@@ -13,9 +13,9 @@ pub data Outcome (R : Type 0) : Type 0 where
 
 module _ {R : Type 0} where
   -- what is written where no question refuses
-  unfoldable pub written_if_met : Finding R → List ℕ → Outcome R
-  written_if_met (refusal r) t = refused r
-  written_if_met met t = written t
+  unfoldable pub written_if_met : Result Unit R → List ℕ → Outcome R
+  written_if_met (Err r) t = refused r
+  written_if_met (Ok tt) t = written t
 
   -- Does it fit the buffer? No: 12, with the length needed.
   unfoldable pub fitting : (ℕ → R) → ℕ → List ℕ → List (Asked R)
@@ -30,14 +30,21 @@ module _ {R : Type 0} where
   buffer_after (refused r) b = b
   buffer_after (written t) b = over t b
 
+  -- how many bytes are written, or the refusal
+  abbrev pub length_of : Outcome R → Result ℕ R
+  length_of (refused r) = Err r
+  length_of (written t) = Ok (length t)
+
   -- what is answered: the length of the text that was written
-  unfoldable pub answer_of : (R → Answer) → Outcome R → Answer
-  answer_of refusal_answer (refused r) = refusal_answer r
-  answer_of refusal_answer (written t) = answer 0 0 (length t)
+  abbrev pub answer_of : (R → Answer) → Outcome R → Answer
+  answer_of told o = answered told (length_of o)
 
   -- the same for a call that is passed the buffer b, o being what happens in each room
+  abbrev pub length_in : (ℕ → Outcome R) → List ℕ → Result ℕ R
+  length_in o b = length_of (o (length b))
+
   abbrev pub answer_in : (R → Answer) → (ℕ → Outcome R) → List ℕ → Answer
-  answer_in refusal_answer o b = answer_of refusal_answer (o (length b))
+  answer_in told o b = answer_of told (o (length b))
 
   abbrev pub buffer_in : (ℕ → Outcome R) → List ℕ → List ℕ
   buffer_in o b = buffer_after (o (length b)) b

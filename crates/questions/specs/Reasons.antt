@@ -1,8 +1,7 @@
 -- What it says that questions are met, or that one of them refuses with an answer. (docs/WORKING.md, 15.)
-use Rattle.std.specs.Prelude.{ℕ, ◌+◌, ◌-◌, ◌≤◌, cond, List, [], ◌∷◌, ◌≡◌, ◌⊎◌, eqb, take, get_or}
+use Rattle.std.specs.Prelude.{ℕ, ◌+◌, ◌-◌, ◌≤◌, cond, List, [], ◌∷◌, ◌≡◌, ◌⊎◌, eqb, take, get_or, Result, Err}
 use Rattle.questions.specs.declared.Answer.{Answer}
 use Rattle.questions.specs.Claims.{Claim, Holds}
-use Rattle.questions.specs.Asking.{Finding, refusal}
 
 -- a claim, and the line that is reported where it is not so
 infix 30 ◌at_line◌
@@ -45,9 +44,9 @@ pub record Reason (k : ℕ) (qs : List (List Lined)) (needed : ℕ) (a : Answer)
   pub size : a.length ≡ length_reported needed a.refusal
 
 -- questions find a refusal whose answer is a
-pub record FoundAs {R : Type 0} (refusal_answer : R → Answer) (f : Finding R) (a : Answer) : Type 0 where
+pub record FoundAs {R : Type 0} (refusal_answer : R → Answer) (f : Result Unit R) (a : Answer) : Type 0 where
   pub what : R
-  pub found : f ≡ refusal what
+  pub found : f ≡ Err what
   pub tells : refusal_answer what ≡ a
 
 -- a call answers a, and refuses

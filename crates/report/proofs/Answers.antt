@@ -1,4 +1,5 @@
 -- What the calls answer, and what is printed of it.
+use Rattle.std.specs.Prelude.{Result, Ok, Err}
 use Prim.Native.Nat.{ℕ}
 use mathlib.Core.Bool.{cond}
 use mathlib.Core.List.{List}
@@ -10,7 +11,6 @@ use Rattle.questions.specs.Buffers.{over}
 use Rattle.questions.specs.declared.Answer.{Answer}
 use Rattle.certificate.specs.declared.Refusal.{Refusal}
 use Rattle.questions.specs.Answers.{answer}
-use Rattle.questions.specs.Asking.{Finding, refusal, met}
 use Rattle.questions.specs.Outcomes.{Outcome, refused, written, answer_of, buffer_after}
 use Rattle.certificate.specs.Refusals.{refusal_answer}
 use Rattle.certificate.specs.Outcome.{checked, check_outcome}
@@ -60,10 +60,10 @@ module _ (a : Answer) where
   unfolding answer_prints refusal_lines
   refusal_prints n = rw (ne_eqb a.refusal 0 n)
 
-found_prints_lem : (c : List ℕ) (f : Finding Refusal) → checked c ≡ f → found_prints c f ≡ answer_prints (answer_of refusal_answer (check_outcome c))
+found_prints_lem : (c : List ℕ) (f : Result Unit Refusal) → checked c ≡ f → found_prints c f ≡ answer_prints (answer_of refusal_answer (check_outcome c))
 unfolding found_prints
-found_prints_lem c met e = sym (passed_prints (answer 0 0 (length c)) refl) ∙ ap answer_prints (answers_passed c (answer 0 0 (length c)) e refl)
-found_prints_lem c (refusal r) e = sym (refusal_prints (refusal_answer r) (refusal_numbered r)) ∙ ap answer_prints (answers_unlike c (refusal_answer r) r e refl)
+found_prints_lem c (Ok tt) e = sym (passed_prints (answer 0 0 (length c)) refl) ∙ ap answer_prints (answers_passed c (answer 0 0 (length c)) e refl)
+found_prints_lem c (Err r) e = sym (refusal_prints (refusal_answer r) (refusal_numbered r)) ∙ ap answer_prints (answers_unlike c (refusal_answer r) r e refl)
 
 pub check_prints : (c : List ℕ) → found_prints c (checked c) ≡ answer_prints (answer_of refusal_answer (check_outcome c))
 check_prints c = found_prints_lem c (checked c) refl

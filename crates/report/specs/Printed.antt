@@ -1,11 +1,10 @@
 -- What the programs print for the bytes that they read. (Document 01, "Sheet and certificate": "A program reads a sheet from standard
 -- input and prints the certificate, or the two lines refused= and line=, each with its number.")
-use Rattle.std.specs.Prelude.{ℕ, List, ◌++◌, pos, length}
+use Rattle.std.specs.Prelude.{ℕ, List, ◌++◌, pos, length, Result, Ok, Err}
 use Prim.Native.String.{String}
 use Rattle.lines.specs.declared.keys.Kind.TheVariants.{Number}
 use Rattle.lines.specs.Texts.{line_text, longest}
 use Rattle.questions.specs.declared.Answer.{Answer}
-use Rattle.questions.specs.Asking.{Finding, refusal, met}
 use Rattle.questions.specs.Outcomes.{Outcome, refused, written}
 use Rattle.certificate.specs.declared.Refusal.{Refusal}
 use Rattle.certificate.specs.Keys.{◌holds◌, certificate_fields}
@@ -30,9 +29,9 @@ unfoldable pub certify_prints : List ℕ → List ℕ
 certify_prints s = outcome_prints refusal_answer (outcome s (longest certificate_fields))
 
 -- of what checking finds in the certificate c
-unfoldable pub found_prints : List ℕ → Finding Refusal → List ℕ
-found_prints c met = number_line "passed=" (length c)
-found_prints c (refusal r) = refusal_lines (refusal_answer r)
+unfoldable pub found_prints : List ℕ → Result Unit Refusal → List ℕ
+found_prints c (Ok tt) = number_line "passed=" (length c)
+found_prints c (Err r) = refusal_lines (refusal_answer r)
 
 -- `verify`, for a certificate: that it passed, with its length, or the refusal
 unfoldable pub verify_prints : List ℕ → List ℕ

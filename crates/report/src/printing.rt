@@ -1,50 +1,67 @@
 // What the programs print for the bytes that they read: specs/Printed.
-ghost use Rattle.std.specs.Prelude.{◌≡◌, ◌+◌, ◌≤◌, length, pos};
+ghost use Rattle.std.specs.Prelude.{◌≡◌, ◌++◌, ◌+◌, ◌≤◌, length, pos};
 ghost use Rattle.questions.specs.Buffers.{over};
 ghost use Rattle.lines.specs.declared.keys.Kind.TheVariants.{Number};
 ghost use Rattle.lines.specs.Fields.{field};
 ghost use Rattle.lines.specs.Texts.{line_text};
-ghost use Rattle.report.specs.Printed.{refusal_lines, certify_prints, verify_prints};
+ghost use Rattle.report.specs.Printed.{number_line, refusal_lines, certify_prints, verify_prints};
 
 use certificate::{LONGEST_CERTIFICATE, certificates};
 use lines::keys::{Key, Kind};
-use lines::writing;
-use pair::signed::Integer;
+use lines::texts::{Behind, Text};
+use lines::writing::Line;
 use questions::Answer;
 
 // The most bytes that the two lines of a refusal take, a number having at most 20 digits.
 pub const LONGEST_REFUSAL: usize = 8 + 20 + 1 + 5 + 20 + 1;
 
-const REFUSED: Key = Key {
-    text: *b"refused=",
-    length: 8,
+const REFUSED: Key<'static> = Key {
+    text: b"refused=",
     kind: Kind::Number,
 };
 
-const LINE: Key = Key {
-    text: *b"line=\0\0\0",
-    length: 5,
+const LINE: Key<'static> = Key {
+    text: b"line=",
     kind: Kind::Number,
 };
 
-const PASSED: Key = Key {
-    text: *b"passed=\0",
-    length: 7,
+const PASSED: Key<'static> = Key {
+    text: b"passed=",
     kind: Kind::Number,
 };
 
-// Writes a line key=number at the start of out, and answers its length.
-fn put_number(out: &mut [u8], key: Key, n: u64) -> usize
-    requires { ((field key).kind ≡ Number) × (length (field key).key + 21 ≤ length out.old) }
-    ensures value { result ≡ length (line_text (field key) (pos n)) }
-    ensures upper_bound { result ≤ length (field key).key + 21 }
-    ensures out_after { out.new ≡ over (line_text (field key) (pos n)) out.old }
+// A line key=number.
+fn number_line(key: &Key<'static>, n: u64) -> Line<'static>
+    requires { key.now.kind ≡ Number }
+    ensures key { result.key ≡ key.now }
+    ensures value { result.value ≡ pos n }
+    ensures most { length (line_text (field result.key) result.value) ≤ length key.now.text.now + 21 }
 {
-    let v = Integer {
-        below: false,
-        size: n,
-    };
-    writing::put_line(out, key, v)
+    Line {
+        key: *key,
+        value: i128::from(n),
+    }
+}
+
+// The two lines of a refusal.
+#[tactic(auto, unfolding(crate::specs::Printed::refusal_lines, crate::specs::Printed::number_line))]
+fn refusal(answer: Answer) -> Behind<Line<'static>, Line<'static>>
+    ensures text { line_text (field result.0.key) result.0.value ++ line_text (field result.1.key) result.1.value ≡ refusal_lines answer }
+    ensures most { length (refusal_lines answer) ≤ 55 }
+{
+    Behind(
+        number_line(&REFUSED, answer.refusal),
+        number_line(&LINE, answer.line),
+    )
+}
+
+// The line of a certificate that passed, with its length.
+#[tactic(auto, unfolding(crate::specs::Printed::number_line))]
+fn passed(answer: Answer) -> Line<'static>
+    ensures text { line_text (field result.key) result.value ≡ number_line "passed=" answer.length }
+    ensures most { length (number_line "passed=" answer.length) ≤ 28 }
+{
+    number_line(&PASSED, answer.length)
 }
 
 // Writes the two lines of a refusal at the start of out, and answers their length.
@@ -53,8 +70,7 @@ pub fn put_refusal(out: &mut [u8], answer: Answer) -> usize
     ensures value { result ≡ length (refusal_lines answer) }
     ensures out_after { out.new ≡ over (refusal_lines answer) out.old }
 {
-    let at = put_number(out, REFUSED, answer.refusal);
-    at + put_number(&mut out[at..], LINE, answer.line)
+    refusal(answer).put(out)
 }
 
 // Writes what `certify` prints for a sheet at the start of out, and answers its length. The last clause
@@ -81,5 +97,5 @@ pub fn verify_prints(certificate: &[u8], out: &mut [u8; LONGEST_REFUSAL]) -> usi
     if answer.refusal != 0 {
         return put_refusal(out, answer);
     }
-    put_number(out, PASSED, answer.length)
+    passed(answer).put(out)
 }

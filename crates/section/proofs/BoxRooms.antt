@@ -31,7 +31,7 @@ module _ {n : ℕ} (f : Fine n) where
   box_factor {x} i = record { order = i.mid; most = omega (arith, i.high) }
 
   pub box_slim : {a b : ℕ} {u : Pair} → Inside n u (a to b) → b ≤ 40000000 → Slim n u
-  box_slim i h = record { fine = f; order = i.mid; most = le_trans i.high (mul-le-mul_right n h) }
+  box_slim i h = record { order = i.mid; most = le_trans i.high (mul-le-mul_right n h) }
 
   -- sheet numbers and written constants
 

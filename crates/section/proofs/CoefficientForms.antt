@@ -29,10 +29,7 @@ pub k_at_past : (n q : ℕ) {x : Pair} → n * 350000 < q → x ≡ k_past n (q 
 unfolding k_at
 k_at_past n q h e = rw (lt-leb q (units n 35 100) (omega arith)) e
 
-module _ {n : ℕ} {q : Pair} (r : LipRatio n q) (past : n * 350000 < q.lo) where
-  abbrev f : Fine n
-  f = r.fine
-
+module _ {n : ℕ} {q : Pair} (f : Fine n) (r : LipRatio n q) (past : n * 350000 < q.lo) where
   -- what q is past 0.35
   abbrev d : Pair
   d = minus q (constant n 35 100)
@@ -62,7 +59,6 @@ module _ {n : ℕ} {q : Pair} (r : LipRatio n q) (past : n * 350000 < q.lo) wher
   pub past_room : PastRoom n q
   unfolding k_past
   past_room = record {
-    fine = f;
     limit = ratio_room f 35 100 (lit< tt) (lit≤ tt);
     less = minus_fits_lem q_box limit_box (le_refl _);
     square = times_room f _ _ square_box (lit≤ tt);
@@ -73,11 +69,11 @@ module _ {n : ℕ} {q : Pair} (r : LipRatio n q) (past : n * 350000 < q.lo) wher
   }
 
 -- one value of q as a pair
-pub at_ratio : {n q : ℕ} → Fine n → q ≤ 600000 * n → LipRatio n (q to q)
-at_ratio f most = record { fine = f; order = le_refl _; most = most }
+pub at_ratio : {n q : ℕ} → q ≤ 600000 * n → LipRatio n (q to q)
+at_ratio most = record { order = le_refl _; most = most }
 
 pub past_box : {n q : ℕ} → Fine n → n * 350000 < q → q ≤ 600000 * n → Inside n (k_past n (q to q)) (500000 to 830000)
-past_box f past most = pair_box (at_ratio f most) past
+past_box f past most = pair_box f (at_ratio most) past
 
 -- past 0.35 each end of k is that at the same end of q: a narrower q has a narrower k, and k rises with q
 
@@ -102,8 +98,8 @@ module _ {n : ℕ} {q : Pair} (n⁺ : 0 < n) (o : q.lo ≤ q.hi) where
       let rise : Rises q (q.hi to q.hi) = record { low = o; high = le_refl _; first = record { ends = o }; second = record { ends = le_refl _ } } in
       omega (arith, (past_narrower n⁺ narrow).high, (past_rises n⁺ rise).high)
 
-pub k_past_is : {n : ℕ} {q x : Pair} → LipRatio n q → n * 350000 < q.lo → x ≡ k_past n q → x ≡ k n q
+pub k_past_is : {n : ℕ} {q x : Pair} → Fine n → LipRatio n q → n * 350000 < q.lo → x ≡ k_past n q → x ≡ k n q
 unfolding k k_at
-k_past_is {n} {q} r past e =
+k_past_is {n} {q} f r past e =
     rw (lt-leb q.lo (units n 35 100) (omega arith), lt-leb q.hi (units n 35 100) (omega (arith, r.order)))
-    (e ∙ (λ i. low_end r.fine.some r.order i to high_end r.fine.some r.order i))
+    (e ∙ (λ i. low_end f.some r.order i to high_end f.some r.order i))

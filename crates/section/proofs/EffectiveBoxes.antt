@@ -26,8 +26,8 @@ pub record EffectiveFlangeBox (n : ℕ) (x : EffectiveFlange) : Type 0 where
 
 -- a section, d being h − tnom in 0.01 mm
 pub record EffectiveBox (n d : ℕ) (x : EffectiveParts) : Type 0 where
-  pub one : EffectiveFlangeBox n x.one
-  pub two : EffectiveFlangeBox n x.two
+  pub one : EffectiveFlangeBox n x.flanges.one
+  pub two : EffectiveFlangeBox n x.flanges.two
   pub p : Inside n x.p (0 to 5000 * d)
   pub m : Inside n x.m (0 to 5000 * d)
 

@@ -12,6 +12,7 @@ use Rattle.pair.proofs.Laws.{same_scale, ratio-Inside, exact_ratio_lem, ratio_bo
 use Rattle.pair.proofs.Numbers.{min_down, min_up}
 use Rattle.section.specs.Working.{scale_of, constant, units}
 use Rattle.section.specs.Constants.{Exact, ConstantsExact}
+use Rattle.section.specs.declared.scale.Scale.{Scale}
 use Rattle.section.specs.Parts.{Fine}
 
 pub scale_positive : {n : ℕ} → 0 < n → 0 < n * 1000000
@@ -22,6 +23,9 @@ pub finer : {m n : ℕ} → 0 < m → 0 < n → Finer m (n * 1000000) (m * n * 1
 finer m⁺ n⁺ = record { many = m⁺; some = scale_positive n⁺; scale = omega arith }
 
 -- the scale 1,000,000
+pub scale-Fine : (s : Scale) → Fine s.fineness
+scale-Fine s = record { some = s.some; most = s.most }
+
 pub one-Fine : Fine 1
 one-Fine = record { some = lit< tt; most = lit≤ tt }
 

@@ -5,7 +5,8 @@ use mathlib.Core.Path.{◌≡◌, refl, ap, ◌∙◌}
 use Rattle.pair.specs.declared.Pair.{Pair}
 use Rattle.pair.proofs.Laws.{plus_comm, plus_right_comm}
 use Rattle.section.specs.declared.Member.{Member}
-use Rattle.section.specs.declared.Round.{Round}
+use Rattle.pair.specs.declared.Both.{Both}
+use Rattle.section.specs.declared.RefinedFlange.{RefinedFlange}
 use Rattle.section.specs.declared.EffectiveParts.{EffectiveParts}
 use Rattle.section.specs.Working.{◌⊕◌, scale_of, ◌⊗◌, mm, effective_flange, round, rounds, kept_length, effective, member_of, worked}
 use Rattle.section.specs.Sheets.{sheet_of}
@@ -14,18 +15,18 @@ use Rattle.section.specs.Exchanged.{FlangesExchanged}
 
 module _ (n : ℕ) where
   abbrev exchanged_member : Member → Member
-  exchanged_member x = record { common = x.common; one = x.two; two = x.one }
+  exchanged_member x = record { common = x.common; flanges = record { one = x.flanges.two; two = x.flanges.one } }
 
-  abbrev exchanged_round : Round → Round
+  abbrev exchanged_round : Both RefinedFlange → Both RefinedFlange
   exchanged_round r = record { one = r.two; two = r.one }
 
   abbrev exchanged_parts : EffectiveParts → EffectiveParts
-  exchanged_parts e = record { one = e.two; two = e.one; p = e.p; m = e.m }
+  exchanged_parts e = record { flanges = record { one = e.flanges.two; two = e.flanges.one }; p = e.p; m = e.m }
 
   rounds_exchanged : (x : Member) (i : ℕ) → rounds n (exchanged_member x) i ≡ exchanged_round (rounds n x i)
   unfolding rounds round
   rounds_exchanged x zero = refl
-  rounds_exchanged x (suc i) = ap (λ (r : Round). round n (exchanged_member x) r.one.chi r.two.chi) (rounds_exchanged x i)
+  rounds_exchanged x (suc i) = ap (λ (r : Both RefinedFlange). round n (exchanged_member x) r.one.chi r.two.chi) (rounds_exchanged x i)
 
   effective_exchanged : (x : Member) (times : ℕ) → effective n (exchanged_member x) times ≡ exchanged_parts (effective n x times)
   unfolding effective
@@ -33,13 +34,13 @@ module _ (n : ℕ) where
       let first = rounds_exchanged x 0 i in
       let last = rounds_exchanged x times i in
       let e = effective n x times in
-      record { one = effective_flange first.one last.one; two = effective_flange first.two last.two; p = e.p; m = e.m }
+      record { flanges = record { one = effective_flange first.one last.one; two = effective_flange first.two last.two }; p = e.p; m = e.m }
 
   kept_length_exchanged : (e : EffectiveParts) → kept_length n (exchanged_parts e) ≡ kept_length n e
   unfolding kept_length
   kept_length_exchanged e =
       plus_right_comm _ _ _
-      ∙ ap (λ (x : Pair). x ⊕ e.p ⊕ e.m ⊕ ◌⊗◌ n e.one.stiffener.a e.one.chi ⊕ ◌⊗◌ n e.two.stiffener.a e.two.chi) (plus_comm _ _)
+      ∙ ap (λ (x : Pair). x ⊕ e.p ⊕ e.m ⊕ ◌⊗◌ n e.flanges.one.stiffener.a e.flanges.one.chi ⊕ ◌⊗◌ n e.flanges.two.stiffener.a e.flanges.two.chi) (plus_comm _ _)
 
   -- two sheets, alike but for b1 and b2, which are exchanged
   pub figures_exchanged : (form h b1 b2 : ℕ) (rest : List ℕ)
@@ -52,6 +53,6 @@ module _ (n : ℕ) where
       record {
         area = ap (λ (a : Pair). a.lo * 100 / scale_of n) area;
         axial = ap (λ (a : Pair). a.lo * q.fyb * 1000 / (q.gm0 * scale_of n)) area;
-        chi1 = ap (λ (y : EffectiveParts). y.one.chi.lo * 1000 / scale_of n) e;
-        chi2 = ap (λ (y : EffectiveParts). y.two.chi.lo * 1000 / scale_of n) e;
+        chi1 = ap (λ (y : EffectiveParts). y.flanges.one.chi.lo * 1000 / scale_of n) e;
+        chi2 = ap (λ (y : EffectiveParts). y.flanges.two.chi.lo * 1000 / scale_of n) e;
       }

@@ -68,25 +68,25 @@ pub record RefinedBox (n γ β : ℕ) (r : RefinedFlange) : Type 0 where
   pub stiffener : StiffenerBox n γ β r.stiffener
   pub chi : Inside n r.chi (0 to 1000000)
 
-module _ {n : ℕ} (f : Fine n) (x : Common) {γ β : ℕ} (v : FlangeNumbers x.t.0 x.fyb γ β) (hp_in : Inside n x.hp (0 to 500000000))
-    {kf o : Pair} (kf_in : Inside n kf (0 to 6000000)) (o_in : Inside n o (0 to 600000 * x.t.0)) where
+module _ {n : ℕ} (f : Fine n) (x : Common) {γ β : ℕ} (v : FlangeNumbers x.steel.t.0 x.steel.fyb γ β) (hp_in : Inside n x.hp (0 to 500000000))
+    {kf o : Pair} (kf_in : Inside n kf (0 to 6000000)) (o_in : Inside n o (0 to 600000 * x.steel.t.0)) where
   -- from a box of its stiffener
   module _ {bp : Pair} {s : Stiffener} (bp_box : Inside n bp (10000 * β to 10000 * β)) (b : StiffenerBox n γ β s) where
-    t⁺ : 0 < x.t.0
+    t⁺ : 0 < x.steel.t.0
     t⁺ = omega arith
 
-    flexibility_in : Inside n (flexibility_of n x.hp kf (g n bp s) o) (0 to 792000000 * (x.t.0 * x.t.0))
-    flexibility_in = flexibility_of_box n f x.t.0 v.thick hp_in kf_in (g_thin n f v b bp_box) (g_wide n f v b bp_box) o_in
+    flexibility_in : Inside n (flexibility_of n x.hp kf (g n bp s) o) (0 to 792000000 * (x.steel.t.0 * x.steel.t.0))
+    flexibility_in = flexibility_of_box n f x.steel.t.0 v.thick hp_in kf_in (g_thin n f v b bp_box) (g_wide n f v b bp_box) o_in
 
     ud_in : Inside n (ud n (flexibility_of n x.hp kf (g n bp s) o) (inertia_of n (core n x) s) (stress_of n (core n x) (strength n x) s)) (0 to 33500000)
-    ud_in = ud_box n f x.t.0 t⁺ flexibility_in (inertia_of_box n f v b) (stress_of_box n f v b)
+    ud_in = ud_box n f x.steel.t.0 t⁺ flexibility_in (inertia_of_box n f v b) (stress_of_box n f v b)
 
     pub factor_room : FactorRoom n x kf (g n bp s) o s
     factor_room = record {
-      bend = bend_room n f x.t.0 v.thick hp_in kf_in (g_thin n f v b bp_box) (g_wide n f v b bp_box) o_in;
+      bend = bend_room n f x.steel.t.0 v.thick hp_in kf_in (g_thin n f v b bp_box) (g_wide n f v b bp_box) o_in;
       inertia = inertia_room n f v b;
       stress = stress_room n f v b;
-      slender = ud_room n f x.t.0 t⁺ flexibility_in (inertia_of_box n f v b) (stress_of_box n f v b);
+      slender = ud_room n f x.steel.t.0 t⁺ flexibility_in (inertia_of_box n f v b) (stress_of_box n f v b);
       slim = box_slim f ud_in (lit≤ tt);
     }
 

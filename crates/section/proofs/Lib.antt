@@ -1,4 +1,5 @@
 pub mod Ends
+pub mod Known
 pub mod BoxRooms
 pub mod BySquares
 pub mod Shares
@@ -6,7 +7,6 @@ pub mod Factor
 pub mod Rising
 pub mod CoefficientForms
 pub mod RoundForms
-pub mod SamePairs
 pub mod Coefficient
 pub mod PartsInside
 pub mod Formulas
@@ -14,6 +14,7 @@ pub mod FlangeRounds
 pub mod Whole
 pub mod Promise
 pub mod ShareForms
+pub mod WidthForms
 pub mod FactorForms
 pub mod EffectiveBoxes
 pub mod SheetNumbers

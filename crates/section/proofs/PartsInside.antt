@@ -6,7 +6,7 @@ use Rattle.section.specs.declared.Common.{Common}
 use Rattle.section.specs.declared.Member.{Member}
 use Rattle.section.specs.declared.Stiffener.{Stiffener}
 use Rattle.section.specs.declared.RefinedFlange.{RefinedFlange}
-use Rattle.section.specs.declared.Round.{Round}
+use Rattle.pair.specs.declared.Both.{Both}
 use Rattle.section.specs.declared.EffectiveFlange.{EffectiveFlange}
 use Rattle.section.specs.declared.EffectiveParts.{EffectiveParts}
 use Rattle.section.specs.Working.{core, strength}
@@ -25,7 +25,7 @@ pub record RefinedInside (m : ℕ) (fine coarse : RefinedFlange) : Type 0 where
   pub stiffener : StiffenerInside m fine.stiffener coarse.stiffener
   pub chi : Inside m fine.chi coarse.chi
 
-pub record RoundInside (m : ℕ) (fine coarse : Round) : Type 0 where
+pub record RoundInside (m : ℕ) (fine coarse : Both RefinedFlange) : Type 0 where
   pub one : RefinedInside m fine.one coarse.one
   pub two : RefinedInside m fine.two coarse.two
 
@@ -35,8 +35,8 @@ pub record EffectiveFlangeInside (m : ℕ) (fine coarse : EffectiveFlange) : Typ
   pub chi : Inside m fine.chi coarse.chi
 
 pub record EffectivePartsInside (mult : ℕ) (fine coarse : EffectiveParts) : Type 0 where
-  pub one : EffectiveFlangeInside mult fine.one coarse.one
-  pub two : EffectiveFlangeInside mult fine.two coarse.two
+  pub one : EffectiveFlangeInside mult fine.flanges.one coarse.flanges.one
+  pub two : EffectiveFlangeInside mult fine.flanges.two coarse.flanges.two
   pub p : Inside mult fine.p coarse.p
   pub m : Inside mult fine.m coarse.m
 
@@ -49,5 +49,5 @@ pub record CommonInside (n m : ℕ) (fine coarse : Common) : Type 0 where
 
 pub record MemberInside (n m : ℕ) (fine coarse : Member) : Type 0 where
   pub common : CommonInside n m fine.common coarse.common
-  pub one : FlangeInside m fine.one coarse.one
-  pub two : FlangeInside m fine.two coarse.two
+  pub one : FlangeInside m fine.flanges.one coarse.flanges.one
+  pub two : FlangeInside m fine.flanges.two coarse.flanges.two

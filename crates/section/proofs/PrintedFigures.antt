@@ -8,7 +8,6 @@ use native.Mathlib.Omega.{arith}
 use borrow.Author.Tests.{leb-true, leb-false, le-leb, lt-leb}
 use lib.Dec.{lit<}
 use lib.IntN.{ℤ, pos, nat_abs, ◌*ℤ◌}
-use Rattle.pair.specs.Forms.{plain}
 use Rattle.pair.specs.Enclosure.{Reaches}
 use Rattle.pair.specs.declared.Pair.{Pair}
 use Rattle.pair.proofs.Laws.{Within, low_within, high_within, times-Within, floor_within, ceil_within, signed_minus-Reaches}
@@ -42,11 +41,11 @@ module _ (p : Printed) where
   unfolding figures_of
   chi2_of_form = refl
 
-  pub shiftlo_of_form : (figures_of p).shiftlo ≡ plain p.shiftlo
+  pub shiftlo_of_form : (figures_of p).shiftlo ≡ p.shiftlo
   unfolding figures_of
   shiftlo_of_form = refl
 
-  pub shifthi_of_form : (figures_of p).shifthi ≡ plain p.shifthi
+  pub shifthi_of_form : (figures_of p).shifthi ≡ p.shifthi
   unfolding figures_of
   shifthi_of_form = refl
 

@@ -1,34 +1,29 @@
 -- The printed figures fit a word.
-use mathlib.Core.Path.{◌≡◌, ap}
+use mathlib.Core.Path.{◌≡◌, ap, ◌∙◌}
+use Rattle.std.proofs.lemmas.Int.{to_z-of_z}
+use lib.IntN.{ℤ, pos, ◌*ℤ◌}
+use Rattle.pair.specs.Integers.{floor_over, ceil_over}
+use Rattle.section.specs.declared.Figures.{Figures}
 use Prim.Native.Nat.{ℕ, ◌*◌, ◌/◌, ◌^◌, ◌≤◌, ◌<◌}
 use native.Mathlib.Nat.{lt_of_le_of_lt, mul-pos, mul-le-mul, mul-le-mul_left, div-le_of_le-mul}
 use native.Mathlib.Omega.{arith}
 use Rattle.pair.specs.Rounding.{ceil_div}
-use Rattle.pair.specs.Forms.{meaning}
 use Rattle.pair.proofs.Numbers.{ceil_le}
-use Rattle.pair.proofs.Laws.{pair_means}
 use Rattle.section.specs.declared.Sheet.{Sheet}
 use Rattle.section.specs.declared.Work.{Work}
 use Rattle.section.specs.Sound.{Sound}
 use Rattle.section.specs.Working.{scale_of, Worked, worked}
 use Rattle.section.specs.Figures.{printed, figures}
-use Rattle.section.specs.Forms.{work_of}
+use Rattle.section.specs.Forms.{work_of, figures_of}
 use Rattle.section.specs.Parts.{Fine}
 use Rattle.section.proofs.Ends.{scale_most}
 use Rattle.section.proofs.SheetNumbers.{section_numbers}
 use Rattle.section.proofs.SizesOfSheets.{sheet_effective_box}
 use Rattle.section.proofs.SizesOfAxis.{area_box}
 
--- a word times k over a scale of at least k is a word
-
-up_to_scale : (n x k : ℕ) → Fine n → k ≤ 1000000 → x * k ≤ x * scale_of n
-up_to_scale n x k f h = mul-le-mul_left x (omega (arith, f.some))
-
-pub floor_word : (n x k : ℕ) → Fine n → k ≤ 1000000 → x < 2 ^ 64 → (0 < scale_of n) × (x * k / scale_of n < 2 ^ 64)
-floor_word n x k f h l = (omega (arith, f.some), lt_of_le_of_lt (div-le_of_le-mul (scale_of n) (omega (arith, up_to_scale n x k f h))) l)
-
-pub ceil_word : (n x k : ℕ) → Fine n → k ≤ 1000000 → x < 2 ^ 64 → (0 < scale_of n) × (ceil_div (x * k) (scale_of n) < 2 ^ 64)
-ceil_word n x k f h l = (omega (arith, f.some), lt_of_le_of_lt (ceil_le {x = x} (omega (arith, f.some)) (omega (arith, up_to_scale n x k f h))) l)
+-- an end in 0.01 mm
+pub shift_word : {x S : ℕ} → 100 ≤ S → x < 2 ^ 64 → ceil_div (x * 100) S < 2 ^ 64
+shift_word {x} {S} h l = lt_of_le_of_lt (ceil_le {x = x} (omega arith) (omega (arith, mul-le-mul_left {m = 100} {n = S} x h))) l
 
 -- x × fyb × 1000 ÷ (gm0 × S), for x of at most 6840 mm²
 pub axial_word : (n fyb x : ℕ) → Fine n → fyb ≤ 700 → x ≤ 6840000000 * n → (x * fyb < 2 ^ 64) × (x * fyb * 1000 < 2 ^ 64)
@@ -53,10 +48,6 @@ pub area_of : (x : Worked) {w : Work} → w ≡ work_of x → w.area ≡ x.area
 unfolding work_of
 area_of x e = ap (λ (y : Work). y.area) e
 
-pub shift_of : (x : Worked) {w : Work} → w ≡ work_of x → meaning w.shift ≡ x.shift
-unfolding work_of
-shift_of x e = pair_means (ap (λ (y : Work). y.shift) e)
-
 pub area_fits : {n : ℕ} {q : Sheet} {w : Work} → Fine n → Sound q → w ≡ work_of (worked n q) → (w.area.lo ≤ 6840000000 * n) × (w.area.hi ≤ 6840000000 * n)
 area_fits {n} {q} f s e = rw (area_of (worked n q) e) (omega (arith, area_most f s))
 
@@ -64,3 +55,36 @@ pub printed_area : {n : ℕ} {q : Sheet} {a : ℕ} → Fine n → Sound q → a 
 unfolding figures printed
 printed_area {n} {q} f s e =
     rw e (div-le_of_le-mul (scale_of n) (omega (arith, area_most f s)))
+
+-- of a working: its printed area and axial resistance, and what they are worked from
+
+module _ (n : ℕ) (q : Sheet) {w : Work} (e : w ≡ work_of (worked n q)) where
+  pub area_is : {a : ℕ} → a ≡ w.area.lo * 100 / scale_of n → a ≡ (figures n q).area
+  unfolding figures printed
+  area_is {a} g = rw (area_of (worked n q) e) at g
+
+  pub axial_is : w.area.lo * q.fyb * 1000 / (q.gm0 * scale_of n) ≡ (figures n q).axial
+  unfolding figures printed
+  axial_is = rw (area_of (worked n q) e)
+
+  pub axial_fits : Fine n → Sound q → (w.area.lo * q.fyb < 2 ^ 64) × (w.area.lo * q.fyb * 1000 < 2 ^ 64)
+  axial_fits f s = axial_word n q.fyb w.area.lo f s.q2.fyb.1 (area_fits f s e).0
+
+-- the code's form of the figures, from those of a working
+module _ (n : ℕ) (q : Sheet) {w : Work} (e : w ≡ work_of (worked n q)) where
+  pub figures_are : {a x c₁ c₂ : ℕ} {lo hi : ℤ} → a ≡ (figures n q).area → x ≡ (figures n q).axial
+      → c₁ ≡ w.chi1.lo * 1000 / scale_of n → c₂ ≡ w.chi2.lo * 1000 / scale_of n
+      → lo ≡ floor_over (w.shift.lo *ℤ pos 100) (scale_of n) → hi ≡ ceil_over (w.shift.hi *ℤ pos 100) (scale_of n)
+      → ◌≡◌ {A = Figures} (record { area = a; axial = x; chi1 = c₁; chi2 = c₂; shiftlo = lo; shifthi = hi }) (figures_of (figures n q))
+  unfolding figures printed figures_of work_of
+  figures_are a_is x_is one two low high =
+      λ i. record {
+        area = a_is i;
+        axial = x_is i;
+        chi1 = (one ∙ ap (λ (y : Work). y.chi1.lo * 1000 / scale_of n) e) i;
+        chi2 = (two ∙ ap (λ (y : Work). y.chi2.lo * 1000 / scale_of n) e) i;
+        shiftlo = (low ∙ ap (λ (y : Work). floor_over (y.shift.lo *ℤ pos 100) (scale_of n)) e) i;
+        shifthi = (high ∙ ap (λ (y : Work). ceil_over (y.shift.hi *ℤ pos 100) (scale_of n)) e) i;
+      }
+
+pub ruleset shown = (to_z-of_z, figures_are)

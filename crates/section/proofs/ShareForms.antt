@@ -1,7 +1,7 @@
 -- ρ at one end, as the code works it: nothing that it forms passes a word; and ρ of a u² up to the square of the limit.
 use mathlib.Core.Path.{◌≡◌, refl, ap, ap₂, ◌∙◌}
-use Prim.Native.Nat.{ℕ, ◌-◌, ◌*◌, ◌^◌, ◌≤◌, ◌<◌, min}
-use native.Mathlib.Nat.{lt_of_le_of_lt, mul_assoc, mul-le-mul, mul-le-mul_right, mul-le-mul_left, sub-le}
+use Prim.Native.Nat.{ℕ, ◌-◌, ◌*◌, ◌≤◌, ◌<◌, min}
+use native.Mathlib.Nat.{mul_assoc, mul-le-mul_left}
 use native.Mathlib.Omega.{arith}
 use borrow.Author.Tests.{le-leb, lt-leb}
 use lib.Dec.{lit<}
@@ -11,8 +11,8 @@ use Rattle.pair.specs.declared.Pair.{Pair}
 use Rattle.pair.proofs.Laws.{root-AtMost}
 use Rattle.section.specs.Working.{scale_of, whole, units, ρ_at, ρ, ρ_plane, ρ_lip}
 use Rattle.section.specs.Parts.{Fine}
-use Rattle.section.specs.Room.{Slim, Curve, Squared}
-use Rattle.section.proofs.Ends.{scale_most}
+use Rattle.section.specs.Room.{Slim}
+use Rattle.section.specs.declared.curve.Curve.{Curve}
 use Rattle.section.proofs.BoxRooms.{constant_box}
 
 -- one end of a slenderness, with the limit and the number taken off that its ρ has
@@ -23,37 +23,20 @@ pub record Share (n limit less u : ℕ) : Type 0 where
   pub high : limit ≤ 1000000 * n
   pub twice : 2 * less ≤ limit
 
--- a number of millionths up to 1, in units
-pub units_fit : (n v : ℕ) → Fine n → v ≤ 1000000 → n * v < 2 ^ 64
-units_fit n v f h = lt_of_le_of_lt (mul-le-mul f.most h) (lit< tt)
-
-module _ {n full less : ℕ} {u : Pair} (s : Slim n u) (c : Curve full less) where
-  pub upper_end : Share n (n * full) (n * less) u.hi
+module _ {n : ℕ} {u : Pair} (f : Fine n) (s : Slim n u) (c : Curve) where
+  pub upper_end : Share n (n * c.full) (n * c.less) u.hi
   upper_end = record {
-    fine = s.fine;
+    fine = f;
     most = s.most;
     low = omega (arith, mul-le-mul_left n c.low);
     high = omega (arith, mul-le-mul_left n c.high);
     twice = omega (arith, mul-le-mul_left n c.twice);
   }
 
-  pub lower_end : Share n (n * full) (n * less) u.lo
+  pub lower_end : Share n (n * c.full) (n * c.less) u.lo
   lower_end = let e = upper_end in record { fine = e.fine; most = omega (arith, s.order, s.most); low = e.low; high = e.high; twice = e.twice }
 
 module _ {n limit less u : ℕ} (r : Share n limit less u) where
-  pub dividend_fits : (u - less) * scale_of n < 2 ^ 64
-  dividend_fits =
-      lt_of_le_of_lt (mul-le-mul {n₁ = u - less} {m₁ = scale_of n} {n₂ = 400000000} {m₂ = 10000000} (omega (arith, r.most, r.fine.most)) (scale_most r.fine)) (omega arith)
-
-  -- what is divided by the square of u
-  pub squared : limit < u → Squared ((u - less) * scale_of n) (scale_of n) u
-  squared h = record {
-    some = omega arith;
-    most = omega (arith, r.most, r.fine.most);
-    scale = omega (arith, r.low);
-    part = mul-le-mul_right (scale_of n) (sub-le u less);
-  }
-
   -- rounded down or up
   module _ (quotient : ℕ → ℕ → ℕ) where
     pub full_end : u ≤ limit → scale_of n ≡ ρ_at n quotient limit less u
@@ -95,7 +78,7 @@ one_is {n} f =
     high : {p : Pair} → Inside n p (1000000 to 1000000) → p.hi ≡ scale_of n
     high b = omega (arith, b.low, b.mid, b.high)
 
-module _ {n : ℕ} (x : Pair) (slim : Slim n (root (scale_of n) x)) where
+module _ {n : ℕ} (f : Fine n) (x : Pair) (slim : Slim n (root (scale_of n) x)) where
   root_most : (limit square : ℕ) → limit * limit ≡ square * 1000000 → x.hi ≤ n * square → (root (scale_of n) x).hi ≤ n * limit
   root_most limit square e h =
       (root-AtMost (scale_of n) (n * limit) {a = n * square} (record { high = h }) (omega (arith, ap (λ (y : ℕ). n * n * y) e))).high
@@ -106,7 +89,7 @@ module _ {n : ℕ} (x : Pair) (slim : Slim n (root (scale_of n) x)) where
   unfolding ρ ρ_at
   full_share limit square e h l less g =
       let most : (root (scale_of n) x).hi ≤ n * limit = root_most limit square e h in
-      rw (le-leb (root (scale_of n) x).hi l (omega arith), le-leb (root (scale_of n) x).lo l (omega (arith, slim.order))) (one_is slim.fine)
+      rw (le-leb (root (scale_of n) x).hi l (omega arith), le-leb (root (scale_of n) x).lo l (omega (arith, slim.order))) (one_is f)
 
   pub full_plane : x.hi ≤ n * 452929 → whole n 1 ≡ ρ_plane n (root (scale_of n) x)
   unfolding ρ_plane

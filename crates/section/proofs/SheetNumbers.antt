@@ -55,7 +55,6 @@ module _ {n : ℕ} (f : Fine n) where
 
   pub mid_line_room : (w v : ℕ) → w ≤ 50000 → v ≤ w → MidRoom n w v
   mid_line_room w v h k = record {
-    fine = f;
     outer = ratio_room f w 100 (lit< tt) (omega arith);
     nominal = ratio_room f v 100 (lit< tt) (omega arith);
     less = minus_fits_lem (mm_box f w) (mm_box f v) (omega arith);
@@ -70,7 +69,6 @@ module _ {n : ℕ} (f : Fine n) where
 
   pub lip_line_room : (w v : ℕ) → w ≤ 50000 → v ≤ 2 * w → LipRoom n w v
   lip_line_room w v h k = record {
-    fine = f;
     outer = ratio_room f w 100 (lit< tt) (omega arith);
     nominal = ratio_room f v 100 (lit< tt) (omega arith);
     half = over_two f (mm n v) (mm_box f v) (omega arith);

@@ -12,7 +12,6 @@ pub sheet_room : {n : ℕ} {q : Sheet} → Fine n → Sound q → SheetRoom n q
 sheet_room {n} {q} f s =
     let depth = (section_numbers s).web.high in
     record {
-      fine = f;
       hp = hp_room s f;
       cp = cp_room s f;
       bp₁ = bp₁_room s f;

@@ -28,7 +28,6 @@ module _ {n : ℕ} (f : Fine n) where
 
         pub axis_room : AxisRoom n hp x
         axis_room = record {
-          fine = f;
           moment_room = moment_room f most H K;
           length = length_room f most K;
           quotient =
@@ -67,7 +66,7 @@ module _ {n : ℕ} (f : Fine n) where
     a_box = plus_box width_box lip_box
 
     full_flange_room : FullFlangeRoom n cp bp
-    full_flange_room = record { fine = f; half = over_two f bp B (omega arith); sum = plus_room f (half bp) cp a_box (lit≤ tt) }
+    full_flange_room = record { half = over_two f bp B (omega arith); sum = plus_room f (half bp) cp a_box (lit≤ tt) }
 
     full_flange_box : EffectiveFlangeBox n (full_flange n cp bp)
     full_flange_box = record { be1 = width_box; stiffener = record { be2 = width_box; c = lip_box; a = a_box }; chi = one_box f }
@@ -79,7 +78,6 @@ module _ {n : ℕ} (f : Fine n) where
 
     pub full_room : FullRoom n hp cp bp₁ bp₂
     full_room = record {
-      fine = f;
       web = over_two f hp H (omega arith);
       one = full_flange_room x.one C B₁;
       two = full_flange_room x.two C B₂;

@@ -51,12 +51,10 @@ module _ (n : ℕ) where
     bend_room =
         let t²_most : t * t ≤ 360000 = mul-le-mul thick thick in
         record {
-          fine = f;
           square = times_room f _ _ g²_box (omega arith);
           depth = times_room f _ _ g²hp_box (omega arith);
           solid = times_room f _ _ g³_box (omega arith);
           cross = record {
-            fine = f;
             half = by_times f g 1 2 (lit< tt) refl half_box (omega arith);
             other = times_room f _ _ other_box (omega arith);
             depth = times_room f _ _ depth_box (omega arith);
@@ -96,9 +94,7 @@ module _ (n : ℕ) where
 
     pub ud_room : UdRoom n D J T
     ud_room = record {
-      fine = f;
       load = record {
-        fine = f;
         quotient = over_room f D J J⁺ inertia_in quotient_box (lit≤ tt);
         once = times_room f _ _ once_box (lit≤ tt);
         twice = times_room f _ _ twice_box (lit≤ tt);

@@ -33,22 +33,22 @@ module _ {n : ℕ} (f : Fine n) where
     far_part_box : Inside n x.m (0 to 250000000)
     far_part_box = wider 0 250000000 (lit≤ tt) (omega arith) K.m
 
-    flanges_box : Inside n (x.one.be1 ⊕ x.two.be1) (6720000 to 200000000)
+    flanges_box : Inside n (x.flanges.one.be1 ⊕ x.flanges.two.be1) (6720000 to 200000000)
     flanges_box = plus_box K.one.be1 K.two.be1
 
-    near_box : Inside n (x.one.be1 ⊕ x.two.be1 ⊕ x.p) (6720000 to 450000000)
+    near_box : Inside n (x.flanges.one.be1 ⊕ x.flanges.two.be1 ⊕ x.p) (6720000 to 450000000)
     near_box = plus_box flanges_box near_part_box
 
-    far_box : Inside n (x.one.be1 ⊕ x.two.be1 ⊕ x.p ⊕ x.m) (6720000 to 700000000)
+    far_box : Inside n (x.flanges.one.be1 ⊕ x.flanges.two.be1 ⊕ x.p ⊕ x.m) (6720000 to 700000000)
     far_box = plus_box near_box far_part_box
 
-    one_box : Inside n (x.one.stiffener.a ⊗ x.one.chi) (0 to 220000000)
+    one_box : Inside n (x.flanges.one.stiffener.a ⊗ x.flanges.one.chi) (0 to 220000000)
     one_box = times_box 0 220000000 (scale f) K.one.stiffener.a K.one.chi (lit≤ tt) (lit≤ tt)
 
-    two_box : Inside n (x.two.stiffener.a ⊗ x.two.chi) (0 to 220000000)
+    two_box : Inside n (x.flanges.two.stiffener.a ⊗ x.flanges.two.chi) (0 to 220000000)
     two_box = times_box 0 220000000 (scale f) K.two.stiffener.a K.two.chi (lit≤ tt) (lit≤ tt)
 
-    first_box : Inside n (x.one.be1 ⊕ x.two.be1 ⊕ x.p ⊕ x.m ⊕ x.one.stiffener.a ⊗ x.one.chi) (6720000 to 920000000)
+    first_box : Inside n (x.flanges.one.be1 ⊕ x.flanges.two.be1 ⊕ x.p ⊕ x.m ⊕ x.flanges.one.stiffener.a ⊗ x.flanges.one.chi) (6720000 to 920000000)
     first_box = plus_box far_box one_box
 
     pub length_box : Inside n (kept_length n x) (6720000 to 1140000000)
@@ -68,7 +68,6 @@ module _ {n : ℕ} (f : Fine n) where
     pub length_room : LengthRoom n x
     unfolding kept_length
     length_room = record {
-      fine = f;
       fixed = fixed_room;
       one = times_room f _ _ one_box (lit≤ tt);
       two = times_room f _ _ two_box (lit≤ tt);
@@ -87,7 +86,6 @@ module _ {n : ℕ} (f : Fine n) where
 
     pub lip_moment_room : LipMomentRoom n hp c χ
     lip_moment_room = record {
-      fine = f;
       force = times_room f c χ force_box (lit≤ tt);
       half = over_two f c C (lit≤ tt);
       product = signed_times_fits_lem {c = 60000000000 * n} (fine_positive (scale f)) (difference-Ordered (Inside-Ordered H) (Inside-Ordered half_lip_box)) (signed_ordered_lem (Inside-Ordered force_box))
@@ -112,7 +110,6 @@ module _ {n : ℕ} (f : Fine n) where
     pub flange_moment_room : FlangeMomentRoom n hp be1 be2 χ
     unfolding flange_moment
     flange_moment_room = record {
-      fine = f;
       part = times_room f be2 χ part_box (lit≤ tt);
       sum = plus_room f _ be1 width_box (lit≤ tt);
       depth = times_room f hp _ flange_moment_box (lit≤ tt);
@@ -136,7 +133,6 @@ module _ {n : ℕ} (f : Fine n) where
     pub far_web_room : FarWebRoom n hp m
     unfolding far_web_moment
     far_web_room = record {
-      fine = f;
       half = over_two f m web_part_box (lit≤ tt);
       less = minus_fits_lem H half_web_box (omega arith);
       product = times_room f m _ far_web_box (lit≤ tt);
@@ -151,7 +147,7 @@ module _ {n : ℕ} (f : Fine n) where
     near_web_box = half_box f 0 31250000000 web_square_box (lit≤ tt) (lit≤ tt)
 
     pub near_web_room : NearWebRoom n p
-    near_web_room = record { fine = f; square = times_room f p p web_square_box (lit≤ tt); half = over_two f _ web_square_box (lit≤ tt) }
+    near_web_room = record { square = times_room f p p web_square_box (lit≤ tt); half = over_two f _ web_square_box (lit≤ tt) }
 
   module _ {c χ : Pair} (C : Inside n c (600000 to 120000000)) (X : Inside n χ (0 to 1000000)) where
     lip_factor_box : Inside n (c ⊗ c ⊗ χ) (0 to 14400000000)
@@ -163,7 +159,6 @@ module _ {n : ℕ} (f : Fine n) where
 
     pub near_lip_room : NearLipRoom n c χ
     near_lip_room = record {
-      fine = f;
       square = times_room f c c (lip_square_box f C) (lit≤ tt);
       factor = times_room f _ χ lip_factor_box (lit≤ tt);
       half = over_two f _ lip_factor_box (lit≤ tt);
@@ -175,10 +170,10 @@ module _ {n : ℕ} (f : Fine n) where
     depth_box : Inside n hp (0 to 500000000)
     depth_box = wider 0 500000000 (omega arith) (omega arith) H
 
-    lip_reaches : Reaches (60000000000 * n) (lip_moment n hp x.two.stiffener.c x.two.chi)
+    lip_reaches : Reaches (60000000000 * n) (lip_moment n hp x.flanges.two.stiffener.c x.flanges.two.chi)
     lip_reaches = lip_moment-Reaches depth_box K.two.stiffener.c K.two.chi
 
-    flange_reaches : Reaches (100000000000 * n) (signed (flange_moment n hp x.two.be1 x.two.stiffener.be2 x.two.chi))
+    flange_reaches : Reaches (100000000000 * n) (signed (flange_moment n hp x.flanges.two.be1 x.flanges.two.stiffener.be2 x.flanges.two.chi))
     flange_reaches = signed_reach f (flange_moment_box depth_box K.two.be1 K.two.stiffener.be2 K.two.chi)
 
     far_reaches : Reaches (125000000000 * n) (signed (far_web_moment n hp x.m))
@@ -187,7 +182,7 @@ module _ {n : ℕ} (f : Fine n) where
     near_reaches : Reaches (31250000000 * n) (signed (near_web_moment n x.p))
     near_reaches = signed_reach f (near_web_box (near_part_box most K))
 
-    near_lip_reaches : Reaches (7200000000 * n) (signed (near_lip_moment n x.one.stiffener.c x.one.chi))
+    near_lip_reaches : Reaches (7200000000 * n) (signed (near_lip_moment n x.flanges.one.stiffener.c x.flanges.one.chi))
     near_lip_reaches = signed_reach f (near_lip_box K.one.stiffener.c K.one.chi)
 
     outer-Reaches : Reaches (160000000000 * n) (outer n hp x)

@@ -7,7 +7,7 @@ use Rattle.pair.specs.declared.Pair.{Pair}
 use Rattle.section.specs.declared.Member.{Member}
 use Rattle.section.specs.declared.Stiffener.{Stiffener}
 use Rattle.section.specs.declared.RefinedFlange.{RefinedFlange}
-use Rattle.section.specs.declared.Round.{Round}
+use Rattle.pair.specs.declared.Both.{Both}
 use Rattle.section.specs.Working.{stiffener_of, kf, effective_flange, round, rounds, effective}
 use Rattle.section.specs.Parts.{Fine}
 use Rattle.section.specs.Room.{FactorsRoom, Steady}
@@ -21,13 +21,13 @@ use Rattle.section.proofs.FlangeRounds.{RefinedBox, kf_box, kf_room, factor_room
 
 -- a member: depth d and widths β₁ and β₂ between mid-lines, in 0.01 mm, and lips of γ, in 0.005 mm
 pub record MemberBox (n d γ β₁ β₂ : ℕ) (x : Member) : Type 0 where
-  pub numbers : SectionNumbers x.common.t.0 x.common.fyb d γ β₁ β₂
+  pub numbers : SectionNumbers x.common.steel.t.0 x.common.steel.fyb d γ β₁ β₂
   pub hp : Inside n x.common.hp (10000 * d to 10000 * d)
   pub cp : Inside n x.common.cp (5000 * γ to 5000 * γ)
-  pub one : FlangeBox n β₁ x.one
-  pub two : FlangeBox n β₂ x.two
+  pub one : FlangeBox n β₁ x.flanges.one
+  pub two : FlangeBox n β₂ x.flanges.two
 
-pub record RoundBox (n γ β₁ β₂ : ℕ) (r : Round) : Type 0 where
+pub record RoundBox (n γ β₁ β₂ : ℕ) (r : Both RefinedFlange) : Type 0 where
   pub one : RefinedBox n γ β₁ r.one
   pub two : RefinedBox n γ β₂ r.two
 
@@ -49,12 +49,11 @@ module _ {n : ℕ} (f : Fine n) where
       kf₂_in : Inside n (kf n s₂ s₁) (0 to 6000000)
       kf₂_in = kf_box f b.numbers.two b.numbers.near_two a₂ a₁
 
-      factors_room : FactorsRoom n x.common x.one.bp x.two.bp s₁ s₂
+      factors_room : FactorsRoom n x.common x.flanges.one.bp x.flanges.two.bp s₁ s₂
       factors_room =
           let v₁ = b.numbers.one in
           let v₂ = b.numbers.two in
           record {
-            fine = f;
             one_g = centre_room n f v₁ a₁ b.one.bp;
             two_g = centre_room n f v₂ a₂ b.two.bp;
             one_kf = kf_room f v₁ b.numbers.near_one a₁ a₂;
@@ -65,11 +64,11 @@ module _ {n : ℕ} (f : Fine n) where
 
     -- one round, from factors of at most 1
     module _ {χ₁ χ₂ : Pair} (h₁ : Inside n χ₁ (0 to 1000000)) (h₂ : Inside n χ₂ (0 to 1000000)) where
-      stiffener₁ : StiffenerBox n γ β₁ (stiffener_of n x.common.cp x.one χ₁)
-      stiffener₁ = stiffener_box n f b.numbers.one x.one χ₁ b.cp b.one h₁
+      stiffener₁ : StiffenerBox n γ β₁ (stiffener_of n x.common.cp x.flanges.one χ₁)
+      stiffener₁ = stiffener_box n f b.numbers.one x.flanges.one χ₁ b.cp b.one h₁
 
-      stiffener₂ : StiffenerBox n γ β₂ (stiffener_of n x.common.cp x.two χ₂)
-      stiffener₂ = stiffener_box n f b.numbers.two x.two χ₂ b.cp b.two h₂
+      stiffener₂ : StiffenerBox n γ β₂ (stiffener_of n x.common.cp x.flanges.two χ₂)
+      stiffener₂ = stiffener_box n f b.numbers.two x.flanges.two χ₂ b.cp b.two h₂
 
       round_box : RoundBox n γ β₁ β₂ (round n x χ₁ χ₂)
       unfolding round
@@ -79,16 +78,15 @@ module _ {n : ℕ} (f : Fine n) where
           let k₁ = kf₁_in stiffener₁ stiffener₂ in
           let k₂ = kf₂_in stiffener₁ stiffener₂ in
           record {
-            one = refined_box f x.common v₁ hp_in k₁ (g_thin n f v₂ stiffener₂ b.two.bp) x.one χ₁ b.cp b.one h₁;
-            two = refined_box f x.common v₂ hp_in k₂ (g_thin n f v₁ stiffener₁ b.one.bp) x.two χ₂ b.cp b.two h₂;
+            one = refined_box f x.common v₁ hp_in k₁ (g_thin n f v₂ stiffener₂ b.two.bp) x.flanges.one χ₁ b.cp b.one h₁;
+            two = refined_box f x.common v₂ hp_in k₂ (g_thin n f v₁ stiffener₁ b.one.bp) x.flanges.two χ₂ b.cp b.two h₂;
           }
 
     steady : Steady n x
     steady = record {
-      fine = f;
       room = λ χ₁ χ₂ h k. record {
-        one = stiffener_room n f b.numbers.one x.one χ₁ b.cp b.one (Factor-box f h);
-        two = stiffener_room n f b.numbers.two x.two χ₂ b.cp b.two (Factor-box f k);
+        one = stiffener_room n f b.numbers.one x.flanges.one χ₁ b.cp b.one (Factor-box f h);
+        two = stiffener_room n f b.numbers.two x.flanges.two χ₂ b.cp b.two (Factor-box f k);
         rest = factors_room (stiffener₁ (Factor-box f h) (Factor-box f k)) (stiffener₂ (Factor-box f h) (Factor-box f k));
       };
       most = λ χ₁ χ₂ h k.

@@ -58,14 +58,12 @@ module _ (n : ℕ) where
     pub stiffener_room : StiffenerRoom n cp l χ
     stiffener_room = record {
       plane = record {
-        fine = f;
         factor = times_room f _ _ plane_box (lit≤ tt);
         radicand = root_room f plane_box (lit≤ tt);
         slim = box_slim f plane_u_box (lit≤ tt);
         half = half_kept_room f 2400 β (ρ_flange_box f.some plane_u_box) b.bp (omega arith);
       };
       lip = record {
-        fine = f;
         factor = times_room f _ _ lip_box (lit≤ tt);
         radicand = root_room f lip_box (lit≤ tt);
         slim = box_slim f lip_u_box (lit≤ tt);
@@ -96,7 +94,6 @@ module _ (n : ℕ) where
 
       pub centre_room : CentreRoom n bp s
       centre_room = record {
-        fine = f;
         square = times_room f _ _ be2²_box (omega (arith, mul-le-mul x.high x.high));
         twice = by_times f s.a 2 1 (lit< tt) refl twice_box (omega arith);
         part = over_room f _ _ (omega arith) twice_box part_box (omega arith);
@@ -148,17 +145,14 @@ module _ (n : ℕ) where
 
     pub inertia_room : InertiaRoom n t s
     inertia_room = record {
-      fine = f;
       plate = record {
-        fine = f;
         once = times_by f s.be2 t 100 (lit< tt) refl once_box (omega arith);
         twice = times_by f _ t 100 (lit< tt) refl again_box (omega (arith, t²_most));
         twelfth = over_by f _ 12 1 (lit< tt) (lit< tt) refl plate_box (omega (arith, t²_most));
       };
-      solid = record { fine = f; square = times_room f _ _ (lip_square_box f stiffener_range.c) (lit≤ tt); solid = times_room f _ _ c³_box (lit≤ tt) };
+      solid = record { square = times_room f _ _ (lip_square_box f stiffener_range.c) (lit≤ tt); solid = times_room f _ _ c³_box (lit≤ tt) };
       twelfth = over_by f _ 12 1 (lit< tt) (lit< tt) refl twelfth_box (lit≤ tt);
       far = record {
-        fine = f;
         times = times_room f _ _ c³be2_box (lit≤ tt);
         four = by_times f s.a 4 1 (lit< tt) refl four_box (lit≤ tt);
         part = over_room f _ _ (lit< tt) four_box far_box (lit≤ tt);
@@ -185,7 +179,6 @@ module _ (n : ℕ) where
     pub stress_room : StressRoom n t fyb s.a
     unfolding stress_of
     stress_room = record {
-      fine = f;
       core = x.thick;
       force = by_times f s.a fyb 1 (lit< tt) refl force_box (omega arith);
       thick = over_by f _ t 100 (omega arith) (lit< tt) refl thick_box (lit≤ tt);

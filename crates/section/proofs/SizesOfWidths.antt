@@ -64,7 +64,6 @@ module _ {n t fyb k₀ a b r v e : ℕ} (f : Fine n) {k w : Pair} (z : Plane t f
   slender_room =
       let square_most : r * r ≤ 250000 = mul-le-mul z.ratio z.ratio in
       record {
-        fine = f;
         ratio = over_by f w t 100 z.thin (lit< tt) refl ratio_box (omega arith);
         square = times_room f _ _ square_box (omega arith);
         yield = times_by f _ fyb 1 (lit< tt) refl yield_box (omega arith);
@@ -84,7 +83,7 @@ module _ {n : ℕ} (f : Fine n) where
 
     pub half_kept_room : v ≤ 50000 → HalfRoom n r w
     unfolding half_kept
-    half_kept_room h = record { fine = f; half = by_times f r 1 2 (lit< tt) refl half_ρ_box (lit≤ tt); width = times_room f _ w half_kept_box (omega arith) }
+    half_kept_room h = record { half = by_times f r 1 2 (lit< tt) refl half_ρ_box (lit≤ tt); width = times_room f _ w half_kept_box (omega arith) }
 
   -- a flange and its lip
   module _ {t fyb γ β : ℕ} (x : FlangeNumbers t fyb γ β) {cp bp : Pair} (cp_box : Inside n cp (5000 * γ to 5000 * γ)) (bp_box : Inside n bp (10000 * β to 10000 * β)) where
@@ -102,10 +101,9 @@ module _ {n : ℕ} (f : Fine n) where
 
     pub flange_room : FlangeRoom n t fyb cp bp
     flange_room = record {
-      fine = f;
       plane = slender_room f flange_plane bp_box (whole_box f 4);
       quotient = over_room f cp bp (omega arith) bp_box q_box (lit≤ tt);
-      ratio = record { fine = f; order = q_box.mid; most = q_box.high };
+      ratio = record { order = q_box.mid; most = q_box.high };
       lip = slender_room f lip_plane cp_box k_wide;
     }
 
@@ -114,8 +112,8 @@ module _ {n : ℕ} (f : Fine n) where
     flange_box = record { bp = bp_box; plane = u²_box f flange_plane bp_box (whole_box f 4); lip = u²_box f lip_plane cp_box k_wide }
 
   -- the web
-  module _ (x : Common) {d : ℕ} (v : WebNumbers x.t.0 x.fyb d) (hp_box : Inside n x.hp (10000 * d to 10000 * d)) where
-    web_plane : Plane x.t.0 x.fyb 4000000 (10000 * d) 500 924000000 231000000
+  module _ (x : Common) {d : ℕ} (v : WebNumbers x.steel.t.0 x.steel.fyb d) (hp_box : Inside n x.hp (10000 * d to 10000 * d)) where
+    web_plane : Plane x.steel.t.0 x.steel.fyb 4000000 (10000 * d) 500 924000000 231000000
     web_plane = omega arith
 
     web_box : Inside n (u² n (core n x) (strength n x) (whole n 4) x.hp) (0 to 231000000)
@@ -130,7 +128,6 @@ module _ {n : ℕ} (f : Fine n) where
 
     pub web_kept_room : WebKeptRoom n x
     web_kept_room = record {
-      fine = f;
       slender = slender_room f web_plane hp_box (whole_box f 4);
       radicand = root_room f web_box (lit≤ tt);
       slim = box_slim f u_box (lit≤ tt);

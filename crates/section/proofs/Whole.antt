@@ -8,7 +8,7 @@ use Rattle.pair.specs.declared.Pair.{Pair}
 use Rattle.pair.proofs.Laws.{Positive-Inside, times-Inside, signed_minus_inside}
 use Rattle.section.specs.declared.Member.{Member}
 use Rattle.section.specs.declared.RefinedFlange.{RefinedFlange}
-use Rattle.section.specs.declared.Round.{Round}
+use Rattle.pair.specs.declared.Both.{Both}
 use Rattle.section.specs.declared.Sheet.{Sheet}
 use Rattle.section.specs.Working.{whole, mm, core, mid_line, refined_flange, round, rounds, kept_length, effective_flange, effective}
 use Rattle.section.specs.Working.{cp_of, bp₁_of, bp₂_of, member_of, worked}
@@ -21,7 +21,7 @@ use Rattle.section.proofs.Formulas.{kept_length-Inside, z-Inside, full-Inside}
 use Rattle.section.proofs.FlangeRounds.{StiffenerDivisors, divisors_finer, refined_inside}
 
 -- what is divided by in a round, and in the working of a sheet
-pub record RoundDivisors (n : ℕ) (t : Pair) (r : Round) : Type 0 where
+pub record RoundDivisors (n : ℕ) (t : Pair) (r : Both RefinedFlange) : Type 0 where
   pub one : StiffenerDivisors n t r.one.stiffener
   pub two : StiffenerDivisors n t r.two.stiffener
 

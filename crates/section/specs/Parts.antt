@@ -6,10 +6,10 @@ use Rattle.section.specs.declared.Common.{Common}
 use Rattle.section.specs.declared.Stiffener.{Stiffener}
 use Rattle.section.specs.declared.Member.{Member}
 use Rattle.section.specs.declared.RefinedFlange.{RefinedFlange}
-use Rattle.section.specs.declared.Round.{Round}
+use Rattle.pair.specs.declared.Both.{Both}
 use Rattle.section.specs.declared.EffectiveParts.{EffectiveParts}
 use Rattle.section.specs.declared.Sheet.{Sheet}
-use Rattle.section.specs.Working.{scale_of, core, strength, g, inertia_of, stress_of, kf, flexibility_of, ud⁴, χ_of, rounds, full, effective, hp_of, cp_of, bp₁_of, bp₂_of, member_of}
+use Rattle.section.specs.Working.{scale_of, constant, whole, mm, core, strength, g, inertia_of, stress_of, kf, flexibility_of, ud⁴, χ_of, rounds, full, effective, hp_of, cp_of, bp₁_of, bp₂_of, member_of}
 
 -- the scale 1,000,000, or up to ten times it
 pub record Fine (n : ℕ) : Type 0 where
@@ -28,16 +28,21 @@ operations n = record { ◌⊗◌ = times (scale_of n); ◌⊘◌ = over (scale_
 abbrev pub lowered : RefinedFlange → Pair → RefinedFlange
 lowered p χ₀ = record { stiffener = p.stiffener; chi = smaller p.chi χ₀ }
 
-abbrev pub lowered_round : Round → Pair → Pair → Round
+abbrev pub lowered_round : Both RefinedFlange → Pair → Pair → Both RefinedFlange
 lowered_round r χ₁ χ₂ = record { one = lowered r.one χ₁; two = lowered r.two χ₂ }
 
 module _ (n : ℕ) where
+  -- (w÷t)×(w÷t)×fyb÷189541.6 of a plane of width w: u² times its buckling coefficient
+  abbrev pub yield_over_euler : ℕ → ℕ → Pair → Pair
+  yield_over_euler t fyb w =
+      let r = over (scale_of n) w (mm n t) in over (scale_of n) (times (scale_of n) (times (scale_of n) r r) (whole n fyb)) (constant n 1895416 10)
+
   -- the fourth power of one flange's ud, from its kf, its own g, the other's g and its stiffener
   abbrev pub fourth_of : Common → Pair → Pair → Pair → Stiffener → Pair
   fourth_of y kf g o s = ud⁴ n (flexibility_of n y.hp kf g o) (inertia_of n (core n y) s) (stress_of n (core n y) (strength n y) s)
 
   -- a round with the χ that its stiffeners give, from both flanges' widths and these: as the code works it, before the smaller is taken
-  unfoldable pub factors : Common → Pair → Pair → Stiffener → Stiffener → Round
+  unfoldable pub factors : Common → Pair → Pair → Stiffener → Stiffener → Both RefinedFlange
   factors y bp₁ bp₂ s₁ s₂ =
       let g₁ = g n bp₁ s₁ in
       let g₂ = g n bp₂ s₂ in
@@ -47,8 +52,8 @@ module _ (n : ℕ) where
       }
 
   -- the same from the stiffeners that a round has
-  abbrev pub own_factors : Member → Round → Round
-  own_factors x r = factors x.common x.one.bp x.two.bp r.one.stiffener r.two.stiffener
+  abbrev pub own_factors : Member → Both RefinedFlange → Both RefinedFlange
+  own_factors x r = factors x.common x.flanges.one.bp x.flanges.two.bp r.one.stiffener r.two.stiffener
 
   abbrev pub effective_of : Sheet → EffectiveParts
   effective_of q = effective n (member_of n q) q.rounds
@@ -57,5 +62,5 @@ module _ (n : ℕ) where
   full_of q = full n (hp_of n q) (cp_of n q) (bp₁_of n q) (bp₂_of n q)
 
   -- the round that the i-th refining gives, and the first working for 0
-  abbrev pub round_of : Sheet → ℕ → Round
+  abbrev pub round_of : Sheet → ℕ → Both RefinedFlange
   round_of q i = rounds n (member_of n q) i

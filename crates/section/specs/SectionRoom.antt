@@ -13,7 +13,7 @@ use Rattle.section.specs.declared.Sheet.{Sheet}
 use Rattle.section.specs.Working.{◌⊕◌, ◌⊖◌, ◌⊞◌, scale_of, constant, core, strength, u², ρ_plane, kept_length}
 use Rattle.section.specs.Working.{lip_moment, flange_moment, far_web_moment, near_web_moment, near_lip_moment, moment, z}
 use Rattle.section.specs.Working.{hp_of, cp_of, bp₁_of, bp₂_of, member_of}
-use Rattle.section.specs.Parts.{Fine, effective_of, full_of, operations}
+use Rattle.section.specs.Parts.{effective_of, full_of, operations}
 use Rattle.section.specs.Room.{MidRoom, LipRoom, SlenderRoom, Slim, HalfRoom, FlangeRoom, Steady}
 
 module _ (n : ℕ) where
@@ -26,57 +26,51 @@ module _ (n : ℕ) where
 
   -- be1 of both flanges and the web's parts
   pub record FixedRoom (x : EffectiveParts) : Type 0 where
-    pub flanges : plus_fits x.one.be1 x.two.be1 ≡ true
-    pub near : plus_fits (x.one.be1 ⊕ x.two.be1) x.p ≡ true
-    pub far : plus_fits (x.one.be1 ⊕ x.two.be1 ⊕ x.p) x.m ≡ true
+    pub flanges : plus_fits x.flanges.one.be1 x.flanges.two.be1 ≡ true
+    pub near : plus_fits (x.flanges.one.be1 ⊕ x.flanges.two.be1) x.p ≡ true
+    pub far : plus_fits (x.flanges.one.be1 ⊕ x.flanges.two.be1 ⊕ x.p) x.m ≡ true
 
   pub record LengthRoom (x : EffectiveParts) : Type 0 where
-    pub fine : Fine n
     pub fixed : FixedRoom x
-    pub one : times_fits (scale_of n) x.one.stiffener.a x.one.chi ≡ true
-    pub two : times_fits (scale_of n) x.two.stiffener.a x.two.chi ≡ true
-    pub first : plus_fits (x.one.be1 ⊕ x.two.be1 ⊕ x.p ⊕ x.m) (x.one.stiffener.a ⊗ x.one.chi) ≡ true
-    pub second : plus_fits (x.one.be1 ⊕ x.two.be1 ⊕ x.p ⊕ x.m ⊕ x.one.stiffener.a ⊗ x.one.chi) (x.two.stiffener.a ⊗ x.two.chi) ≡ true
+    pub one : times_fits (scale_of n) x.flanges.one.stiffener.a x.flanges.one.chi ≡ true
+    pub two : times_fits (scale_of n) x.flanges.two.stiffener.a x.flanges.two.chi ≡ true
+    pub first : plus_fits (x.flanges.one.be1 ⊕ x.flanges.two.be1 ⊕ x.p ⊕ x.m) (x.flanges.one.stiffener.a ⊗ x.flanges.one.chi) ≡ true
+    pub second : plus_fits (x.flanges.one.be1 ⊕ x.flanges.two.be1 ⊕ x.p ⊕ x.m ⊕ x.flanges.one.stiffener.a ⊗ x.flanges.one.chi) (x.flanges.two.stiffener.a ⊗ x.flanges.two.chi) ≡ true
 
   pub record LipMomentRoom (hp lip χ₂ : Pair) : Type 0 where
-    pub fine : Fine n
     pub force : times_fits (scale_of n) lip χ₂ ≡ true
     pub half : over_ratio_fits (scale_of n) lip 2 1 ≡ true
     pub product : signed_times_fits (scale_of n) (difference hp (lip ⊘ c 2 1)) (signed (lip ⊗ χ₂)) ≡ true
 
   pub record FlangeMomentRoom (hp be1₂ be2₂ χ₂ : Pair) : Type 0 where
-    pub fine : Fine n
     pub part : times_fits (scale_of n) be2₂ χ₂ ≡ true
     pub sum : plus_fits (be2₂ ⊗ χ₂) be1₂ ≡ true
     pub depth : times_fits (scale_of n) hp (be2₂ ⊗ χ₂ ⊕ be1₂) ≡ true
 
   pub record FarWebRoom (hp m : Pair) : Type 0 where
-    pub fine : Fine n
     pub half : over_ratio_fits (scale_of n) m 2 1 ≡ true
     pub less : minus_fits hp (m ⊘ c 2 1) ≡ true
     pub product : times_fits (scale_of n) m (hp ⊖ m ⊘ c 2 1) ≡ true
 
   pub record NearWebRoom (p : Pair) : Type 0 where
-    pub fine : Fine n
     pub square : times_fits (scale_of n) p p ≡ true
     pub half : over_ratio_fits (scale_of n) (p ⊗ p) 2 1 ≡ true
 
   pub record NearLipRoom (lip χ₁ : Pair) : Type 0 where
-    pub fine : Fine n
     pub square : times_fits (scale_of n) lip lip ≡ true
     pub factor : times_fits (scale_of n) (lip ⊗ lip) χ₁ ≡ true
     pub half : over_ratio_fits (scale_of n) (lip ⊗ lip ⊗ χ₁) 2 1 ≡ true
 
   -- the moment of flange 2 and its lip
   abbrev pub outer : Pair → EffectiveParts → SignedPair
-  outer hp x = lip_moment n hp x.two.stiffener.c x.two.chi ⊞ flange_moment n hp x.two.be1 x.two.stiffener.be2 x.two.chi
+  outer hp x = lip_moment n hp x.flanges.two.stiffener.c x.flanges.two.chi ⊞ flange_moment n hp x.flanges.two.be1 x.flanges.two.stiffener.be2 x.flanges.two.chi
 
   pub record OuterRoom (hp : Pair) (x : EffectiveParts) : Type 0 where
-    pub lip : LipMomentRoom hp x.two.stiffener.c x.two.chi
-    pub flange : FlangeMomentRoom hp x.two.be1 x.two.stiffener.be2 x.two.chi
+    pub lip : LipMomentRoom hp x.flanges.two.stiffener.c x.flanges.two.chi
+    pub flange : FlangeMomentRoom hp x.flanges.two.be1 x.flanges.two.stiffener.be2 x.flanges.two.chi
     pub sum :
-        signed_plus_fits (lip_moment n hp x.two.stiffener.c x.two.chi)
-        (signed (flange_moment n hp x.two.be1 x.two.stiffener.be2 x.two.chi)) ≡ true
+        signed_plus_fits (lip_moment n hp x.flanges.two.stiffener.c x.flanges.two.chi)
+        (signed (flange_moment n hp x.flanges.two.be1 x.flanges.two.stiffener.be2 x.flanges.two.chi)) ≡ true
 
   pub record WebRoom (hp p m : Pair) (a : SignedPair) : Type 0 where
     pub far : FarWebRoom hp m
@@ -87,32 +81,28 @@ module _ (n : ℕ) where
   pub record MomentRoom (hp : Pair) (x : EffectiveParts) : Type 0 where
     pub outer_room : OuterRoom hp x
     pub web : WebRoom hp x.p x.m (outer hp x)
-    pub near : NearLipRoom x.one.stiffener.c x.one.chi
+    pub near : NearLipRoom x.flanges.one.stiffener.c x.flanges.one.chi
     pub sum :
         signed_plus_fits (outer hp x ⊞ far_web_moment n hp x.m ⊞ near_web_moment n x.p)
-        (signed (near_lip_moment n x.one.stiffener.c x.one.chi)) ≡ true
+        (signed (near_lip_moment n x.flanges.one.stiffener.c x.flanges.one.chi)) ≡ true
 
   pub record AxisRoom (hp : Pair) (x : EffectiveParts) : Type 0 where
-    pub fine : Fine n
     pub moment_room : MomentRoom hp x
     pub length : LengthRoom x
     pub quotient : signed_over_fits (scale_of n) (moment n hp x) (kept_length n x) ≡ true
 
   -- half of a flange, and its lip
   pub record FullFlangeRoom (cp bp : Pair) : Type 0 where
-    pub fine : Fine n
     pub half : over_ratio_fits (scale_of n) bp 2 1 ≡ true
     pub sum : plus_fits (bp ⊘ c 2 1) cp ≡ true
 
   pub record FullRoom (hp cp bp₁ bp₂ : Pair) : Type 0 where
-    pub fine : Fine n
     pub web : over_ratio_fits (scale_of n) hp 2 1 ≡ true
     pub one : FullFlangeRoom cp bp₁
     pub two : FullFlangeRoom cp bp₂
 
   pub record WebKeptRoom (y : Common) : Type 0 where
-    pub fine : Fine n
-    pub slender : SlenderRoom n y.t.0 y.fyb (c 4 1) y.hp
+    pub slender : SlenderRoom n y.steel.t.0 y.steel.fyb (c 4 1) y.hp
     pub radicand : root_fits (scale_of n) (u² n (core n y) (strength n y) (c 4 1) y.hp) ≡ true
     pub slim : Slim n (root (scale_of n) (u² n (core n y) (strength n y) (c 4 1) y.hp))
     pub half : HalfRoom n (ρ_plane n (root (scale_of n) (u² n (core n y) (strength n y) (c 4 1) y.hp))) y.hp
@@ -123,7 +113,6 @@ module _ (n : ℕ) where
 
   -- every operation of a sheet's working has room
   pub record SheetRoom (q : Sheet) : Type 0 where
-    pub fine : Fine n
     pub hp : MidRoom n q.h q.tnom.0
     pub cp : LipRoom n q.c q.tnom.0
     pub bp₁ : MidRoom n q.b1 q.tnom.0

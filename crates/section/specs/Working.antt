@@ -13,8 +13,9 @@ use Rattle.section.specs.declared.Common.{Common}
 use Rattle.section.specs.declared.Member.{Member}
 use Rattle.section.specs.declared.Stiffener.{Stiffener}
 use Rattle.section.specs.declared.RefinedFlange.{RefinedFlange}
-use Rattle.section.specs.declared.Round.{Round}
+use Rattle.pair.specs.declared.Both.{Both}
 use Rattle.section.specs.declared.Sheet.{Sheet}
+use Rattle.section.specs.declared.MidLines.{MidLines}
 use Rattle.section.specs.declared.EffectiveFlange.{EffectiveFlange}
 use Rattle.section.specs.declared.EffectiveParts.{EffectiveParts}
 
@@ -119,10 +120,10 @@ module _ (n : ℕ) where
 
   -- t and fyb, exact
   abbrev pub core : Common → Pair
-  core y = mm y.t.0
+  core y = mm y.steel.t.0
 
   abbrev pub strength : Common → Pair
-  strength y = whole y.fyb
+  strength y = whole y.steel.fyb
 
   -- a flange of mid-line width bp with its lip cp: u² of each at full thickness
   unfoldable pub flange_of : Pair → Pair → Pair → Pair → Flange
@@ -192,17 +193,17 @@ module _ (n : ℕ) where
       record { stiffener = s; chi = smaller (χ_of y kf (g f.bp s) o s) χ₀ }
 
   -- one round, from both flanges' χ of the round before; each flange has its own kf (10)
-  unfoldable pub round : Member → Pair → Pair → Round
+  unfoldable pub round : Member → Pair → Pair → Both RefinedFlange
   round x χ₁ χ₂ =
-      let s₁ = stiffener_of x.common.cp x.one χ₁ in
-      let s₂ = stiffener_of x.common.cp x.two χ₂ in
+      let s₁ = stiffener_of x.common.cp x.flanges.one χ₁ in
+      let s₂ = stiffener_of x.common.cp x.flanges.two χ₂ in
       record {
-        one = refined_flange x.common x.one χ₁ (kf s₁ s₂) (g x.two.bp s₂);
-        two = refined_flange x.common x.two χ₂ (kf s₂ s₁) (g x.one.bp s₁);
+        one = refined_flange x.common x.flanges.one χ₁ (kf s₁ s₂) (g x.flanges.two.bp s₂);
+        two = refined_flange x.common x.flanges.two χ₂ (kf s₂ s₁) (g x.flanges.one.bp s₁);
       }
 
   -- the first working, at χ = 1, which no χ is above, and as many refining rounds as the sheet says
-  unfoldable pub rounds : Member → ℕ → Round
+  unfoldable pub rounds : Member → ℕ → Both RefinedFlange
   rounds x zero = round x (whole 1) (whole 1)
   rounds x (suc i) = let r = rounds x i in round x r.one.chi r.two.chi
 
@@ -210,7 +211,7 @@ module _ (n : ℕ) where
 
   -- L = be1 of flange 1 + be1 of flange 2 + the web's two kept parts, p at flange 1 and m at flange 2 + a1×χ1 + a2×χ2 (11)
   unfoldable pub kept_length : EffectiveParts → Pair
-  kept_length x = x.one.be1 ⊕ x.two.be1 ⊕ x.p ⊕ x.m ⊕ x.one.stiffener.a ⊗ x.one.chi ⊕ x.two.stiffener.a ⊗ x.two.chi
+  kept_length x = x.flanges.one.be1 ⊕ x.flanges.two.be1 ⊕ x.p ⊕ x.m ⊕ x.flanges.one.stiffener.a ⊗ x.flanges.one.chi ⊕ x.flanges.two.stiffener.a ⊗ x.flanges.two.chi
 
   -- c2×χ2×(hp − c2÷2), which lies below zero where the lip is longer than twice hp
   unfoldable pub lip_moment : Pair → Pair → Pair → SignedPair
@@ -235,11 +236,11 @@ module _ (n : ℕ) where
   -- their sum, in this order
   unfoldable pub moment : Pair → EffectiveParts → SignedPair
   moment hp x =
-      lip_moment hp x.two.stiffener.c x.two.chi
-      ⊞ flange_moment hp x.two.be1 x.two.stiffener.be2 x.two.chi
+      lip_moment hp x.flanges.two.stiffener.c x.flanges.two.chi
+      ⊞ flange_moment hp x.flanges.two.be1 x.flanges.two.stiffener.be2 x.flanges.two.chi
       ⊞ far_web_moment hp x.m
       ⊞ near_web_moment x.p
-      ⊞ near_lip_moment x.one.stiffener.c x.one.chi
+      ⊞ near_lip_moment x.flanges.one.stiffener.c x.flanges.one.chi
 
   -- z, the distance of the neutral axis from flange 1 (12, from the lip's moment on)
   unfoldable pub z : Pair → EffectiveParts → SignedPair
@@ -250,7 +251,7 @@ module _ (n : ℕ) where
   full_flange cp bp = let b = bp ⊘ whole 2 in record { be1 = b; stiffener = record { be2 = b; c = cp; a = b ⊕ cp }; chi = whole 1 }
 
   unfoldable pub full : Pair → Pair → Pair → Pair → EffectiveParts
-  full hp cp bp₁ bp₂ = let he = hp ⊘ whole 2 in record { one = full_flange cp bp₁; two = full_flange cp bp₂; p = he; m = he }
+  full hp cp bp₁ bp₂ = let he = hp ⊘ whole 2 in record { flanges = record { one = full_flange cp bp₁; two = full_flange cp bp₂ }; p = he; m = he }
 
   -- he = 0.5×ρ×hp of the web
   unfoldable pub web_kept : Common → Pair
@@ -262,7 +263,7 @@ module _ (n : ℕ) where
       let first = rounds x 0 in
       let last = rounds x times in
       let he = web_kept x.common in
-      record { one = effective_flange first.one last.one; two = effective_flange first.two last.two; p = he; m = he }
+      record { flanges = record { one = effective_flange first.one last.one; two = effective_flange first.two last.two }; p = he; m = he }
 
   -- the mid-line lengths of a sheet, and the member that it describes
   abbrev pub hp_of : Sheet → Pair
@@ -277,10 +278,13 @@ module _ (n : ℕ) where
   abbrev pub bp₂_of : Sheet → Pair
   bp₂_of q = mid_line q.b2 q.tnom.0
 
+  abbrev pub mid_lines : Sheet → MidLines
+  mid_lines q = record { hp = hp_of q; cp = cp_of q; bp = record { one = bp₁_of q; two = bp₂_of q } }
+
   abbrev pub member_of : Sheet → Member
   member_of q =
       let flange = flange_of (mm q.t.0) (whole q.fyb) (cp_of q) in
-      record { common = record { t = q.t; fyb = q.fyb; hp = hp_of q; cp = cp_of q }; one = flange (bp₁_of q); two = flange (bp₂_of q) }
+      record { common = record { steel = record { t = q.t; fyb = q.fyb }; hp = hp_of q; cp = cp_of q }; flanges = record { one = flange (bp₁_of q); two = flange (bp₂_of q) } }
 
   -- the working of a sheet: effective area = t×L, both χ, z, the gross z, and the shift = z − gross z
   unfoldable pub worked : Sheet → Worked
@@ -288,4 +292,4 @@ module _ (n : ℕ) where
       let e = effective (member_of q) q.rounds in
       let y = z (hp_of q) e in
       let w = z (hp_of q) (full (hp_of q) (cp_of q) (bp₁_of q) (bp₂_of q)) in
-      record { area = mm q.t.0 ⊗ kept_length e; χ₁ = e.one.chi; χ₂ = e.two.chi; z = y; gross_z = w; shift = signed_minus y w }
+      record { area = mm q.t.0 ⊗ kept_length e; χ₁ = e.flanges.one.chi; χ₂ = e.flanges.two.chi; z = y; gross_z = w; shift = signed_minus y w }

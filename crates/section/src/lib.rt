@@ -2,30 +2,36 @@
 #![tactic(auto)]
 
 pub mod coefficients;
+mod curve;
 pub mod factors;
 pub mod moments;
 pub mod rounds;
+mod scale;
 pub mod sections;
-pub mod sheets;
+mod sheets;
+mod sound;
 pub mod stiffeners;
 pub mod widths;
 
-use pair::Pair;
-use pair::signed::{Integer, Signed};
+pub use curve::Curve;
+use pair::signed::Signed;
+use pair::{Both, Pair};
+pub use scale::Scale;
+pub use sound::{SoundSheet, WorkedSheet};
 
 // The nominal thickness, with its coating, and the core thickness, in 0.01 mm. Neither is taken
 // for the other.
-#[derive(Clone, Copy)]
+#[derive(Clone, Copy, Debug, PartialEq, Eq)]
 pub struct Nominal(pub u64);
 
-#[derive(Clone, Copy)]
+#[derive(Clone, Copy, Debug, PartialEq, Eq)]
 pub struct Core(pub u64);
 
 // How many numbers a sheet has: one for each of its lines.
 pub const SHEET_LINES: usize = 13;
 
 // The numbers of a sheet, lengths in 0.01 mm.
-#[derive(Clone, Copy)]
+#[derive(Clone, Copy, Debug, PartialEq, Eq)]
 pub struct Sheet {
     pub form: u64,
     pub h: u64,
@@ -43,33 +49,37 @@ pub struct Sheet {
 }
 
 // A flange with its lip: its mid-line width, and u² of flange and lip at full thickness.
-#[derive(Clone, Copy)]
+#[derive(Clone, Copy, Debug, PartialEq, Eq)]
 pub struct Flange {
     pub bp: Pair,
     pub plane: Pair,
     pub lip: Pair,
 }
 
-// What both flanges of a section have in common: the core thickness, the yield strength, and the
-// mid-line lengths of web and lips.
-#[derive(Clone, Copy)]
-pub struct Common {
+// The core thickness, and the yield strength in N/mm².
+#[derive(Clone, Copy, Debug, PartialEq, Eq)]
+pub struct Steel {
     pub t: Core,
     pub fyb: u64,
+}
+
+// What both flanges of a section have in common: the steel, and the mid-line lengths of web and lips.
+#[derive(Clone, Copy, Debug, PartialEq, Eq)]
+pub struct Common {
+    pub steel: Steel,
     pub hp: Pair,
     pub cp: Pair,
 }
 
 // What every round of a section works with.
-#[derive(Clone, Copy)]
+#[derive(Clone, Copy, Debug, PartialEq, Eq)]
 pub struct Member {
     pub common: Common,
-    pub one: Flange,
-    pub two: Flange,
+    pub flanges: Both<Flange>,
 }
 
 // What counts of a flange at its stiffener: be2, c_eff, and a, their sum.
-#[derive(Clone, Copy)]
+#[derive(Clone, Copy, Debug, PartialEq, Eq)]
 pub struct Stiffener {
     pub be2: Pair,
     pub c: Pair,
@@ -77,21 +87,14 @@ pub struct Stiffener {
 }
 
 // One flange's part of a round: its stiffener and its thickness factor.
-#[derive(Clone, Copy)]
+#[derive(Clone, Copy, Debug, PartialEq, Eq)]
 pub struct RefinedFlange {
     pub stiffener: Stiffener,
     pub chi: Pair,
 }
 
-// What a round gives, of flange 1 and of flange 2.
-#[derive(Clone, Copy)]
-pub struct Round {
-    pub one: RefinedFlange,
-    pub two: RefinedFlange,
-}
-
 // What counts of a flange: be1, its stiffener and its thickness factor.
-#[derive(Clone, Copy)]
+#[derive(Clone, Copy, Debug, PartialEq, Eq)]
 pub struct EffectiveFlange {
     pub be1: Pair,
     pub stiffener: Stiffener,
@@ -100,26 +103,24 @@ pub struct EffectiveFlange {
 
 // The effective parts of a section: those of both flanges, and the web's, p at flange 1 and m at
 // flange 2.
-#[derive(Clone, Copy)]
+#[derive(Clone, Copy, Debug, PartialEq, Eq)]
 pub struct EffectiveParts {
-    pub one: EffectiveFlange,
-    pub two: EffectiveFlange,
+    pub flanges: Both<EffectiveFlange>,
     pub p: Pair,
     pub m: Pair,
 }
 
 // The mid-line lengths of a sheet.
-#[derive(Clone, Copy)]
+#[derive(Clone, Copy, Debug, PartialEq, Eq)]
 pub struct MidLines {
     pub hp: Pair,
     pub cp: Pair,
-    pub bp1: Pair,
-    pub bp2: Pair,
+    pub bp: Both<Pair>,
 }
 
 // What a working gives: the effective area, both thickness factors, the distance of the neutral
 // axis from flange 1 and that of the gross section, and the shift.
-#[derive(Clone, Copy)]
+#[derive(Clone, Copy, Debug, PartialEq, Eq)]
 pub struct Work {
     pub area: Pair,
     pub chi1: Pair,
@@ -131,12 +132,12 @@ pub struct Work {
 
 // The printed figures: area in 0.01 mm², axial in newtons, both factors in thousandths, the ends
 // of the shift in 0.01 mm.
-#[derive(Clone, Copy)]
+#[derive(Clone, Copy, Debug, PartialEq, Eq)]
 pub struct Figures {
     pub area: u64,
     pub axial: u64,
     pub chi1: u64,
     pub chi2: u64,
-    pub shiftlo: Integer,
-    pub shifthi: Integer,
+    pub shiftlo: i128,
+    pub shifthi: i128,
 }

@@ -1,246 +1,215 @@
 // The stiffeners of both flanges, worked and refined. (docs/WORKING.md, 8 to 10.)
-ghost use Rattle.std.specs.Prelude.{◌≡◌, true, ◌&&◌, ◌*◌, eqb};
-ghost use Rattle.section.specs.Working.{flange_of, stiffener_of, round, rounds, mm, whole};
+ghost use Rattle.std.specs.Prelude.{◌≡◌};
+ghost use Rattle.section.specs.Working.{flange_of, stiffener_of, kf, g, round, rounds, mm, whole};
 ghost use Rattle.section.specs.Parts.{fourth_of, factors, lowered, lowered_round};
 ghost use Rattle.section.specs.Room.{FlangeRoom, StiffenerRoom, FactorRoom, FactorsRoom, RoundRoom, Steady, AtMostOwn};
 
 use crate::{
-    Common, Core, Flange, Member, RefinedFlange, Round, Stiffener, coefficients, factors,
+    Common, Flange, Member, RefinedFlange, Scale, Steel, Stiffener, coefficients, factors,
     stiffeners, widths,
 };
-use pair::Pair;
-
-// Whether two pairs have the same ends.
-fn same(p: Pair, q: Pair) -> bool
-    ensures { result ≡ (eqb p.lo q.lo && eqb p.hi q.hi) }
-{
-    p.lo == q.lo && p.hi == q.hi
-}
-
-// Whether each of three pairs is the same as its other.
-fn all_same(p1: Pair, q1: Pair, p2: Pair, q2: Pair, p3: Pair, q3: Pair) -> bool
-    ensures { (result ≡ true → (p1 ≡ q1) × (p2 ≡ q2) × (p3 ≡ q3)) × ((p1 ≡ q1) × (p2 ≡ q2) × (p3 ≡ q3) → result ≡ true) }
-{
-    same(p1, q1) && (same(p2, q2) && same(p3, q3))
-}
-
-// Whether two stiffeners are the same.
-fn same_stiffener(a: Stiffener, b: Stiffener) -> bool
-    ensures { (result ≡ true → a ≡ b) × (a ≡ b → result ≡ true) }
-{
-    all_same(a.be2, b.be2, a.c, b.c, a.a, b.a)
-}
-
-// Whether two flanges are the same.
-fn alike(f: Flange, g: Flange) -> bool
-    ensures { (result ≡ true → f ≡ g) × (f ≡ g → result ≡ true) }
-{
-    all_same(f.bp, g.bp, f.plane, g.plane, f.lip, g.lip)
-}
+use pair::{Both, Pair};
 
 // A flange of mid-line width bp with its lip.
-pub fn flange_of(n: u64, t: Core, fyb: u64, cp: Pair, bp: Pair) -> Flange
-    requires { FlangeRoom n t.0 fyb cp bp }
-    ensures { result ≡ flange_of n (mm n t.0) (whole n fyb) cp bp }
+#[tactic(auto, unfolding(crate::specs::Working::flange_of))]
+pub fn flange_of(s: Scale, steel: Steel, cp: Pair, bp: Pair) -> Flange
+    requires { FlangeRoom s.fineness steel.t.0 steel.fyb cp bp }
+    ensures { result ≡ flange_of s.fineness (mm s.fineness steel.t.0) (whole s.fineness steel.fyb) cp bp }
 {
-    let plane = widths::plane_slenderness_squared(n, t, fyb, bp);
-    let ratio = cp.over(bp, n * 1_000_000);
-    let coefficient = coefficients::coefficient(n, ratio);
-    let lip = widths::slenderness_squared(n, t, fyb, coefficient, cp);
-    Flange { bp, plane, lip }
+    let coefficient = coefficients::coefficient(s, cp.over(bp, s.units()));
+    Flange {
+        bp,
+        plane: widths::plane_slenderness_squared(s, steel, bp),
+        lip: widths::slenderness_squared(s, steel, coefficient, cp),
+    }
 }
 
 // The second flange, of mid-line width bp, beside the first: the same where both are equally wide.
-pub fn second_flange(n: u64, t: Core, fyb: u64, cp: Pair, bp: Pair, first: Flange) -> Flange
-    requires { FlangeRoom n t.0 fyb cp bp × (first ≡ flange_of n (mm n t.0) (whole n fyb) cp first.bp) }
-    ensures { result ≡ flange_of n (mm n t.0) (whole n fyb) cp bp }
+pub fn second_flange(s: Scale, steel: Steel, cp: Pair, bp: Pair, first: Flange) -> Flange
+    requires room { FlangeRoom s.fineness steel.t.0 steel.fyb cp bp }
+    requires first { first ≡ flange_of s.fineness (mm s.fineness steel.t.0) (whole s.fineness steel.fyb) cp first.bp }
+    ensures { result ≡ flange_of s.fineness (mm s.fineness steel.t.0) (whole s.fineness steel.fyb) cp bp }
 {
-    if same(first.bp, bp) {
+    if first.bp == bp {
         return first;
     }
-    flange_of(n, t, fyb, cp, bp)
+    flange_of(s, steel, cp, bp)
 }
 
 // be2 = 0.5 * rho * bp and c_eff = rho * cp, u² of plane and lip multiplied by the factor of the
 // round before.
-fn stiffener_of(n: u64, cp: Pair, f: Flange, before: Pair) -> Stiffener
-    requires { StiffenerRoom n cp f before }
-    ensures { result ≡ stiffener_of n cp f before }
+#[tactic(auto, unfolding(crate::specs::Working::stiffener_of))]
+fn stiffener_of(s: Scale, cp: Pair, f: Flange, before: Pair) -> Stiffener
+    requires { StiffenerRoom s.fineness cp f before }
+    ensures { result ≡ stiffener_of s.fineness cp f before }
 {
-    let s = n * 1_000_000;
-    let bp = f.bp;
-    let plane = f.plane.times(before, s);
-    let lip = f.lip.times(before, s);
-    let shares = factors::shares(n, plane, lip);
-    let be2 = widths::half_kept(n, shares.one, bp);
-    let c = shares.two.times(cp, s);
-    let a = be2.plus(c);
-    Stiffener { be2, c, a }
+    let units = s.units();
+    let shares = factors::shares(s, f.plane.times(before, units), f.lip.times(before, units));
+    let be2 = widths::half_kept(s, shares.one, f.bp);
+    let c = shares.two.times(cp, units);
+    Stiffener {
+        be2,
+        c,
+        a: be2.plus(c),
+    }
+}
+
+// The stiffeners of both flanges, from their factors of the round before: worked once where both
+// flanges and both factors are the same.
+fn stiffeners_of(s: Scale, x: Member, before: Both<Pair>) -> Both<Stiffener>
+    requires one { StiffenerRoom s.fineness x.common.cp x.flanges.one before.one }
+    requires two { StiffenerRoom s.fineness x.common.cp x.flanges.two before.two }
+    ensures one { result.one ≡ stiffener_of s.fineness x.common.cp x.flanges.one before.one }
+    ensures two { result.two ≡ stiffener_of s.fineness x.common.cp x.flanges.two before.two }
+{
+    let one = stiffener_of(s, x.common.cp, x.flanges.one, before.one);
+    if x.flanges.one == x.flanges.two && before.one == before.two {
+        return Both { one, two: one };
+    }
+    Both {
+        one,
+        two: stiffener_of(s, x.common.cp, x.flanges.two, before.two),
+    }
 }
 
 // The fourth power of one flange's ud, g its own and o the other's.
-fn fourth_of(n: u64, y: Common, kf: Pair, g: Pair, o: Pair, s: Stiffener) -> Pair
-    requires { FactorRoom n y kf g o s }
-    ensures { result ≡ fourth_of n y kf g o s }
+fn fourth_of(s: Scale, x: Common, kf: Pair, g: Pair, o: Pair, y: Stiffener) -> Pair
+    requires { FactorRoom s.fineness x kf g o y }
+    ensures { result ≡ fourth_of s.fineness x kf g o y }
 {
-    let t = y.t;
-    let d = stiffeners::flexibility(n, y.hp, kf, g, o);
-    let j = stiffeners::inertia(n, t, s);
-    let load = stiffeners::stress(n, t, y.fyb, s);
-    stiffeners::slenderness_fourth(n, d, j, load)
+    let d = stiffeners::flexibility(s, x.hp, kf, g, o);
+    let j = stiffeners::inertia(s, x.steel.t, y);
+    stiffeners::slenderness_fourth(s, d, j, stiffeners::stress(s, x.steel, y))
 }
 
-// The factors that both flanges' stiffeners give; each flange has its own kf (W-201), and both roots
-// are worked side by side.
-fn unequal_factors(n: u64, y: Common, bp1: Pair, bp2: Pair, one: Stiffener, two: Stiffener) -> Round
-    requires { FactorsRoom n y bp1 bp2 one two }
-    ensures { result ≡ factors n y bp1 bp2 one two }
+// The fourth power of each flange's ud; each flange has its own kf (W-201).
+#[tactic(auto, unfolding(crate::specs::Working::kf))]
+fn fourths_of(s: Scale, x: Member, y: Both<Stiffener>) -> Both<Pair>
+    requires { FactorsRoom s.fineness x.common x.flanges.one.bp x.flanges.two.bp y.one y.two }
+    ensures one { result.one ≡ fourth_of s.fineness x.common (kf s.fineness y.one y.two) (g s.fineness x.flanges.one.bp y.one) (g s.fineness x.flanges.two.bp y.two) y.one }
+    ensures two { result.two ≡ fourth_of s.fineness x.common (kf s.fineness y.two y.one) (g s.fineness x.flanges.two.bp y.two) (g s.fineness x.flanges.one.bp y.one) y.two }
 {
-    let s = n * 1_000_000;
-    let g1 = stiffeners::centre(n, bp1, one);
-    let g2 = stiffeners::centre(n, bp2, two);
-    let kf1 = two.a.over(one.a, s);
-    let kf2 = one.a.over(two.a, s);
-    let fourth1 = fourth_of(n, y, kf1, g1, g2, one);
-    let fourth2 = fourth_of(n, y, kf2, g2, g1, two);
-    let squares = fourth1.roots(fourth2, s);
-    let u = squares.one.roots(squares.two, s);
-    let chi1 = factors::factor(n, u.one);
-    let chi2 = factors::factor(n, u.two);
-    let part1 = RefinedFlange {
-        stiffener: one,
-        chi: chi1,
-    };
-    let part2 = RefinedFlange {
-        stiffener: two,
-        chi: chi2,
-    };
-    Round {
-        one: part1,
-        two: part2,
+    let units = s.units();
+    let g1 = stiffeners::centre(s, x.flanges.one.bp, y.one);
+    let g2 = stiffeners::centre(s, x.flanges.two.bp, y.two);
+    let kf1 = y.two.a.over(y.one.a, units);
+    let kf2 = y.one.a.over(y.two.a, units);
+    Both {
+        one: fourth_of(s, x.common, kf1, g1, g2, y.one),
+        two: fourth_of(s, x.common, kf2, g2, g1, y.two),
+    }
+}
+
+// The factors that both flanges' stiffeners give; both roots are worked side by side.
+#[tactic(auto, unfolding(crate::specs::Working::ud))]
+fn unequal_factors(s: Scale, x: Member, y: Both<Stiffener>) -> Both<RefinedFlange>
+    requires { FactorsRoom s.fineness x.common x.flanges.one.bp x.flanges.two.bp y.one y.two }
+    ensures { result ≡ factors s.fineness x.common x.flanges.one.bp x.flanges.two.bp y.one y.two }
+{
+    let units = s.units();
+    let fourths = fourths_of(s, x, y);
+    let squares = fourths.one.roots(fourths.two, units);
+    let u = squares.one.roots(squares.two, units);
+    Both {
+        one: RefinedFlange {
+            stiffener: y.one,
+            chi: factors::factor(s, u.one),
+        },
+        two: RefinedFlange {
+            stiffener: y.two,
+            chi: factors::factor(s, u.two),
+        },
     }
 }
 
 // The factors of two equally wide flanges with one stiffener, worked once.
-fn equal_factors(n: u64, y: Common, bp: Pair, one: Stiffener) -> Round
-    requires { FactorsRoom n y bp bp one one }
-    ensures { result ≡ factors n y bp bp one one }
+#[tactic(auto, unfolding(crate::specs::Working::kf, crate::specs::Working::ud))]
+fn equal_factors(s: Scale, common: Common, bp: Pair, y: Stiffener) -> Both<RefinedFlange>
+    requires { FactorsRoom s.fineness common bp bp y y }
+    ensures { result ≡ factors s.fineness common bp bp y y }
 {
-    let s = n * 1_000_000;
-    let g = stiffeners::centre(n, bp, one);
-    let kf = one.a.over(one.a, s);
-    let fourth = fourth_of(n, y, kf, g, g, one);
-    let square = fourth.root(s);
-    let u = square.root(s);
-    let chi = factors::factor(n, u);
-    let part = RefinedFlange {
-        stiffener: one,
-        chi,
+    let units = s.units();
+    let g = stiffeners::centre(s, bp, y);
+    let kf = y.a.over(y.a, units);
+    let fourth = fourth_of(s, common, kf, g, g, y);
+    let one = RefinedFlange {
+        stiffener: y,
+        chi: factors::factor(s, fourth.root(units).root(units)),
     };
-    Round {
-        one: part,
-        two: part,
-    }
+    Both { one, two: one }
 }
 
 // The factors that both flanges' stiffeners give.
-fn factors_of(n: u64, y: Common, bp1: Pair, bp2: Pair, one: Stiffener, two: Stiffener) -> Round
-    requires { FactorsRoom n y bp1 bp2 one two }
-    ensures { result ≡ factors n y bp1 bp2 one two }
+fn factors_of(s: Scale, x: Member, y: Both<Stiffener>) -> Both<RefinedFlange>
+    requires { FactorsRoom s.fineness x.common x.flanges.one.bp x.flanges.two.bp y.one y.two }
+    ensures { result ≡ factors s.fineness x.common x.flanges.one.bp x.flanges.two.bp y.one y.two }
 {
-    if same(bp1, bp2) && same_stiffener(one, two) {
-        return equal_factors(n, y, bp1, one);
+    if x.flanges.one.bp == x.flanges.two.bp && y.one == y.two {
+        return equal_factors(s, x.common, x.flanges.one.bp, y.one);
     }
-    unequal_factors(n, y, bp1, bp2, one, two)
-}
-
-// Whether two flanges are the same and so are their factors.
-fn equally_refined(f1: Flange, f2: Flange, chi1: Pair, chi2: Pair) -> bool
-    ensures { (result ≡ true → (f1 ≡ f2) × (chi1 ≡ chi2)) × ((f1 ≡ f2) × (chi1 ≡ chi2) → result ≡ true) }
-{
-    alike(f1, f2) && same(chi1, chi2)
-}
-
-// The second flange's stiffener beside the first's, which is the same where both are equally refined.
-fn second_stiffener(
-    n: u64,
-    cp: Pair,
-    f: Flange,
-    chi: Pair,
-    equal: bool,
-    one: Stiffener,
-) -> Stiffener
-    requires { StiffenerRoom n cp f chi × (equal ≡ true → one ≡ stiffener_of n cp f chi) }
-    ensures { result ≡ stiffener_of n cp f chi }
-{
-    if equal {
-        return one;
-    }
-    stiffener_of(n, cp, f, chi)
+    unequal_factors(s, x, y)
 }
 
 // One flange's part of a round, with the smaller of its factor and the one of the round before (W-205).
 fn lowered(new: RefinedFlange, last: RefinedFlange) -> RefinedFlange
     ensures { result ≡ lowered new last.chi }
 {
-    let stiffener = new.stiffener;
-    let chi = new.chi.smaller(last.chi);
-    RefinedFlange { stiffener, chi }
+    RefinedFlange {
+        stiffener: new.stiffener,
+        chi: new.chi.smaller(last.chi),
+    }
 }
 
 // A round, with the smaller of each factor and the one of the round before.
-fn lowered_round(new: Round, last: Round) -> Round
+fn lowered_round(new: Both<RefinedFlange>, last: Both<RefinedFlange>) -> Both<RefinedFlange>
     ensures { result ≡ lowered_round new last.one.chi last.two.chi }
 {
-    let one = lowered(new.one, last.one);
-    let two = lowered(new.two, last.two);
-    Round { one, two }
+    Both {
+        one: lowered(new.one, last.one),
+        two: lowered(new.two, last.two),
+    }
 }
 
 // The round behind another. Where both stiffeners stay, it is the same round: the factors that it has
 // are at most those that its stiffeners give, so they are the smaller again.
-fn next_round(n: u64, x: Member, last: Round) -> Round
-    requires { RoundRoom n x last.one.chi last.two.chi × AtMostOwn n x last }
-    ensures { result ≡ round n x last.one.chi last.two.chi }
+fn next_round(s: Scale, x: Member, last: Both<RefinedFlange>) -> Both<RefinedFlange>
+    requires { RoundRoom s.fineness x last.one.chi last.two.chi × AtMostOwn s.fineness x last }
+    ensures { result ≡ round s.fineness x last.one.chi last.two.chi }
 {
-    let one = stiffener_of(n, x.common.cp, x.one, last.one.chi);
-    let equal = equally_refined(x.one, x.two, last.one.chi, last.two.chi);
-    let two = second_stiffener(n, x.common.cp, x.two, last.two.chi, equal, one);
-    if same_stiffener(one, last.one.stiffener) && same_stiffener(two, last.two.stiffener) {
+    let before = Both {
+        one: last.one.chi,
+        two: last.two.chi,
+    };
+    let stiffeners = stiffeners_of(s, x, before);
+    if stiffeners.one == last.one.stiffener && stiffeners.two == last.two.stiffener {
         return last;
     }
-    let new = factors_of(n, x.common, x.one.bp, x.two.bp, one, two);
-    lowered_round(new, last)
+    lowered_round(factors_of(s, x, stiffeners), last)
 }
 
 // The first working, with all factors 1: no factor is above that, so nothing is lowered.
-pub fn first_round(n: u64, x: Member) -> Round
-    requires { Steady n x }
-    ensures { result ≡ rounds n x 0 }
+pub fn first_round(s: Scale, x: Member) -> Both<RefinedFlange>
+    requires { Steady s.fineness x }
+    ensures { result ≡ rounds s.fineness x 0 }
 {
-    let chi = Pair::ratio(1, 1, n * 1_000_000);
-    let one = stiffener_of(n, x.common.cp, x.one, chi);
-    let equal = alike(x.one, x.two);
-    let two = second_stiffener(n, x.common.cp, x.two, chi, equal, one);
-    factors_of(n, x.common, x.one.bp, x.two.bp, one, two)
+    let one = s.one();
+    let stiffeners = stiffeners_of(s, x, Both { one, two: one });
+    factors_of(s, x, stiffeners)
 }
 
 // As many refining rounds as the sheet says, from the first working. A round that leaves both factors
 // as they were is the last: the next would be the same.
-pub fn refined(n: u64, x: Member, first: Round, times: u64) -> Round
-    requires { Steady n x × (first ≡ rounds n x 0) }
-    ensures { result ≡ rounds n x times }
+pub fn refined(s: Scale, x: Member, first: Both<RefinedFlange>, times: u64) -> Both<RefinedFlange>
+    requires { Steady s.fineness x × (first ≡ rounds s.fineness x 0) }
+    ensures { result ≡ rounds s.fineness x times }
 {
     let mut r = first;
-    let mut i: u64 = 0;
-    while i < times {
-        let chi1 = r.one.chi;
-        let chi2 = r.two.chi;
-        r = next_round(n, x, r);
-        if same(r.one.chi, chi1) && same(r.two.chi, chi2) {
-            return r;
+    for _ in 0..times {
+        let next = next_round(s, x, r);
+        if next.one.chi == r.one.chi && next.two.chi == r.two.chi {
+            return next;
         }
-        i += 1;
+        r = next;
     }
     r
 }

@@ -1,243 +1,145 @@
-// The working of a whole section, and the figures that are printed.
+// The working of a whole section.
 // (docs/WORKING.md, 11 to 13.)
-ghost use Rattle.std.specs.Prelude.{◌≡◌, ◌*◌, ◌/◌, ◌≤◌, pos, ◌*ℤ◌};
-ghost use Rattle.pair.specs.Integers.{floor_over, ceil_over};
-ghost use Rattle.pair.specs.Forms.{plain, meaning};
-ghost use Rattle.section.specs.Sound.{Sound};
-ghost use Rattle.section.specs.Working.{scale_of, web_kept, effective_flange, effective, full_flange, full, hp_of, worked};
-ghost use Rattle.section.specs.Figures.{figures, allowed};
-ghost use Rattle.section.specs.Forms.{MidLinesAre, work_of, figures_of};
-ghost use Rattle.section.specs.Parts.{Fine, effective_of, full_of};
+ghost use Rattle.std.specs.Prelude.{◌≡◌};
+ghost use Rattle.section.specs.Working.{web_kept, effective_flange, effective, full_flange, full, mid_lines, member_of, worked};
+ghost use Rattle.section.specs.Forms.{work_of};
+ghost use Rattle.section.specs.Room.{MidRoom, LipRoom};
 ghost use Rattle.section.specs.SectionRoom.{WebKeptRoom, EffectiveRoom, FullFlangeRoom, FullRoom, SheetRoom};
 
 use crate::{
-    Common, EffectiveFlange, EffectiveParts, Figures, Member, MidLines, RefinedFlange, Sheet,
+    Common, EffectiveFlange, EffectiveParts, Member, MidLines, RefinedFlange, Scale, Sheet, Steel,
     Stiffener, Work, factors, moments, rounds, widths,
 };
-use pair::signed::{Integer, Signed};
-use pair::{Pair, wide};
+use pair::{Both, Pair};
 
 // he = 0.5 * rho * hp of the web.
-fn web_kept(n: u64, y: Common) -> Pair
-    requires { WebKeptRoom n y }
-    ensures { result ≡ web_kept n y }
+#[tactic(auto, unfolding(crate::specs::Working::web_kept))]
+fn web_kept(s: Scale, y: Common) -> Pair
+    requires { WebKeptRoom s.fineness y }
+    ensures { result ≡ web_kept s.fineness y }
 {
-    let hp = y.hp;
-    let square = widths::plane_slenderness_squared(n, y.t, y.fyb, hp);
-    let u = square.root(n * 1_000_000);
-    let share = factors::share(n, factors::PLANE_FULL, factors::PLANE_LESS, u);
-    widths::half_kept(n, share, hp)
+    let u = widths::plane_slenderness_squared(s, y.steel, y.hp).root(s.units());
+    widths::half_kept(s, factors::plane_share(s, u), y.hp)
 }
 
 // What counts of a flange, from the first working and the last: be1 is that of the first and stays.
 fn effective_flange(first: RefinedFlange, last: RefinedFlange) -> EffectiveFlange
     ensures { result ≡ effective_flange first last }
 {
-    let before = first.stiffener;
-    let be1 = before.be2;
-    let stiffener = last.stiffener;
-    let chi = last.chi;
     EffectiveFlange {
-        be1,
-        stiffener,
-        chi,
+        be1: first.stiffener.be2,
+        stiffener: last.stiffener,
+        chi: last.chi,
     }
 }
 
 // What counts after the sheet's refining rounds.
-fn effective_section(n: u64, x: Member, times: u64) -> EffectiveParts
-    requires { EffectiveRoom n x }
-    ensures { result ≡ effective n x times }
+#[tactic(auto, unfolding(crate::specs::Working::effective))]
+fn effective_section(s: Scale, x: Member, times: u64) -> EffectiveParts
+    requires { EffectiveRoom s.fineness x }
+    ensures { result ≡ effective s.fineness x times }
 {
-    let first = rounds::first_round(n, x);
-    let last = rounds::refined(n, x, first, times);
-    let he = web_kept(n, x.common);
+    let first = rounds::first_round(s, x);
+    let last = rounds::refined(s, x, first, times);
+    let he = web_kept(s, x.common);
     let one = effective_flange(first.one, last.one);
     let two = effective_flange(first.two, last.two);
     EffectiveParts {
-        one,
-        two,
+        flanges: Both { one, two },
         p: he,
         m: he,
     }
 }
 
-// A flange that counts in full, with its lip: be2 = bp / 2 and c_eff = cp.
-fn full_stiffener(n: u64, cp: Pair, bp: Pair) -> Stiffener
-    requires { FullFlangeRoom n cp bp }
-    ensures { result ≡ (full_flange n cp bp).stiffener }
+// A flange that counts in full, with its lip: be1 = be2 = bp / 2, c_eff = cp, and factor 1.
+fn full_flange(s: Scale, cp: Pair, bp: Pair) -> EffectiveFlange
+    requires { FullFlangeRoom s.fineness cp bp }
+    ensures { result ≡ full_flange s.fineness cp bp }
 {
-    let be2 = bp.over_ratio(2, 1, n * 1_000_000);
-    let a = be2.plus(cp);
-    Stiffener { be2, c: cp, a }
+    let half = bp.over_ratio(2, 1, s.units());
+    EffectiveFlange {
+        be1: half,
+        stiffener: Stiffener {
+            be2: half,
+            c: cp,
+            a: half.plus(cp),
+        },
+        chi: s.one(),
+    }
 }
 
-// All full: be1 = be2 = bp / 2, he = hp / 2, c_eff = cp, and factors 1.
-pub fn full_section(n: u64, hp: Pair, cp: Pair, bp1: Pair, bp2: Pair) -> EffectiveParts
-    requires { FullRoom n hp cp bp1 bp2 }
-    ensures { result ≡ full n hp cp bp1 bp2 }
+// All full, and he = hp / 2.
+#[tactic(auto, unfolding(crate::specs::Working::full))]
+pub fn full_section(s: Scale, l: MidLines) -> EffectiveParts
+    requires { FullRoom s.fineness l.hp l.cp l.bp.one l.bp.two }
+    ensures { result ≡ full s.fineness l.hp l.cp l.bp.one l.bp.two }
 {
-    let s = n * 1_000_000;
-    let he = hp.over_ratio(2, 1, s);
-    let stiffener1 = full_stiffener(n, cp, bp1);
-    let stiffener2 = full_stiffener(n, cp, bp2);
-    let chi = Pair::ratio(1, 1, s);
-    let be1 = stiffener1.be2;
-    let one = EffectiveFlange {
-        be1,
-        stiffener: stiffener1,
-        chi,
-    };
-    let be1_of_2 = stiffener2.be2;
-    let two = EffectiveFlange {
-        be1: be1_of_2,
-        stiffener: stiffener2,
-        chi,
-    };
+    let he = l.hp.over_ratio(2, 1, s.units());
+    let one = full_flange(s, l.cp, l.bp.one);
+    let two = full_flange(s, l.cp, l.bp.two);
     EffectiveParts {
-        one,
-        two,
+        flanges: Both { one, two },
         p: he,
         m: he,
     }
 }
 
-pub fn lines_of(n: u64, q: Sheet) -> MidLines
-    requires { SheetRoom n q }
-    ensures { MidLinesAre n q result }
+pub fn lines_of(s: Scale, q: Sheet) -> MidLines
+    requires hp { MidRoom s.fineness q.h q.tnom.0 }
+    requires cp { LipRoom s.fineness q.c q.tnom.0 }
+    requires one { MidRoom s.fineness q.b1 q.tnom.0 }
+    requires two { MidRoom s.fineness q.b2 q.tnom.0 }
+    ensures { result ≡ mid_lines s.fineness q }
 {
-    let tnom = q.tnom;
-    let hp = widths::mid_line(n, q.h, tnom);
-    let cp = widths::lip_line(n, q.c, tnom);
-    let bp1 = widths::mid_line(n, q.b1, tnom);
-    let bp2 = widths::mid_line(n, q.b2, tnom);
-    MidLines { hp, cp, bp1, bp2 }
+    MidLines {
+        hp: widths::mid_line(s, q.h, q.tnom),
+        cp: widths::lip_line(s, q.c, q.tnom),
+        bp: Both {
+            one: widths::mid_line(s, q.b1, q.tnom),
+            two: widths::mid_line(s, q.b2, q.tnom),
+        },
+    }
 }
 
-// The effective section of a sheet whose mid-line lengths are l.
-fn effective_of(n: u64, q: Sheet, l: MidLines) -> EffectiveParts
-    requires { SheetRoom n q × MidLinesAre n q l }
-    ensures { result ≡ effective_of n q }
+// The member that a sheet describes, whose mid-line lengths are l.
+#[tactic(auto, using(crate::proofs::RoundForms::own_width))]
+fn member_of(s: Scale, q: Sheet, l: MidLines) -> Member
+    requires room { SheetRoom s.fineness q }
+    requires lines { l ≡ mid_lines s.fineness q }
+    ensures { result ≡ member_of s.fineness q }
 {
-    let t = q.t;
-    let fyb = q.fyb;
-    let hp = l.hp;
-    let cp = l.cp;
-    let one = rounds::flange_of(n, t, fyb, cp, l.bp1);
-    let two = rounds::second_flange(n, t, fyb, cp, l.bp2, one);
-    let common = Common { t, fyb, hp, cp };
-    let x = Member { common, one, two };
-    effective_section(n, x, q.rounds)
+    let steel = Steel { t: q.t, fyb: q.fyb };
+    let common = Common {
+        steel,
+        hp: l.hp,
+        cp: l.cp,
+    };
+    let one = rounds::flange_of(s, steel, l.cp, l.bp.one);
+    let two = rounds::second_flange(s, steel, l.cp, l.bp.two, one);
+    Member {
+        common,
+        flanges: Both { one, two },
+    }
 }
 
-// The gross section of a sheet whose mid-line lengths are l.
-fn full_of(n: u64, q: Sheet, l: MidLines) -> EffectiveParts
-    requires { SheetRoom n q × MidLinesAre n q l }
-    ensures { result ≡ full_of n q }
+// Area, axes and shift of the effective section, beside the gross section.
+#[tactic(auto, unfolding(crate::specs::Working::worked, crate::specs::Forms::work_of))]
+pub fn work_of(s: Scale, q: Sheet) -> Work
+    requires { SheetRoom s.fineness q }
+    ensures { result ≡ work_of (worked s.fineness q) }
 {
-    let hp = l.hp;
-    let cp = l.cp;
-    let bp1 = l.bp1;
-    let bp2 = l.bp2;
-    full_section(n, hp, cp, bp1, bp2)
-}
-
-// Area, axes and shift of an effective section e beside the gross section g.
-fn worked_of(n: u64, q: Sheet, hp: Pair, e: EffectiveParts, g: EffectiveParts) -> Work
-    requires { SheetRoom n q × (hp ≡ hp_of n q) × (e ≡ effective_of n q) × (g ≡ full_of n q) }
-    ensures { result ≡ work_of (worked n q) }
-{
-    let t = q.t;
-    let one = e.one;
-    let two = e.two;
-    let chi1 = one.chi;
-    let chi2 = two.chi;
-    let length = moments::length(n, e);
-    let area = widths::constant_times(n, t.0, 100, length);
-    let z = moments::axis(n, hp, e, length);
-    let full_length = moments::length(n, g);
-    let gross = moments::axis(n, hp, g, full_length);
-    let shift = z.minus(gross);
+    let l = lines_of(s, q);
+    let effective = effective_section(s, member_of(s, q, l), q.rounds);
+    let length = moments::length(s, effective);
+    let z = moments::axis(s, l.hp, effective, length);
+    let full = full_section(s, l);
+    let gross = moments::axis(s, l.hp, full, moments::length(s, full));
     Work {
-        area,
-        chi1,
-        chi2,
+        area: widths::constant_times(s, q.t.0, 100, length),
+        chi1: effective.flanges.one.chi,
+        chi2: effective.flanges.two.chi,
         z,
         gross,
-        shift,
+        shift: z.minus(gross),
     }
-}
-
-// The working of a sheet that meets the questions on its numbers, at fineness n.
-pub fn work(n: u64, q: Sheet) -> Work
-    requires { Fine n × Sound q }
-    ensures { result ≡ work_of (worked n q) }
-{
-    let l = lines_of(n, q);
-    let e = effective_of(n, q, l);
-    let g = full_of(n, q, l);
-    let hp = l.hp;
-    worked_of(n, q, hp, e, g)
-}
-
-// The lower end in units of 1/k, rounded down.
-fn lower_part(n: u64, p: Pair, k: u64) -> u64
-    requires { Fine n × (k ≤ 1000000) }
-    ensures { result ≡ p.lo * k / scale_of n }
-{
-    wide::floor_of(p.lo, k, n * 1_000_000)
-}
-
-// The lower end in 0.01 mm, rounded toward minus infinity.
-fn lower_shift(n: u64, a: Signed) -> Integer
-    requires { Fine n }
-    ensures { result ≡ plain (floor_over ((meaning a).lo *ℤ pos 100) (scale_of n)) }
-{
-    let low = a.lo;
-    low.floor_by(100, n * 1_000_000)
-}
-
-// The upper end in 0.01 mm, rounded toward plus infinity.
-fn upper_shift(n: u64, a: Signed) -> Integer
-    requires { Fine n }
-    ensures { result ≡ plain (ceil_over ((meaning a).hi *ℤ pos 100) (scale_of n)) }
-{
-    let high = a.hi;
-    high.ceil_by(100, n * 1_000_000)
-}
-
-// The lower end of the area times fyb over the partial factor, in newtons, rounded down once.
-fn axial(n: u64, q: Sheet, area: u64) -> u64
-    requires { Fine n × Sound q × (area ≤ 6840000000 * n) }
-    ensures { result ≡ area * q.fyb * 1000 / (q.gm0 * scale_of n) }
-{
-    area * q.fyb * 1000 / (q.gm0 * (n * 1_000_000))
-}
-
-// The printed figures of a working.
-pub fn figures_of(n: u64, q: Sheet, w: Work) -> Figures
-    requires { Fine n × Sound q × (w ≡ work_of (worked n q)) }
-    ensures { result ≡ figures_of (figures n q) }
-{
-    let area = w.area;
-    let chi1 = w.chi1;
-    let chi2 = w.chi2;
-    let shift = w.shift;
-    Figures {
-        area: lower_part(n, area, 100),
-        axial: axial(n, q, area.lo),
-        chi1: lower_part(n, chi1, 1000),
-        chi2: lower_part(n, chi2, 1000),
-        shiftlo: lower_shift(n, shift),
-        shifthi: upper_shift(n, shift),
-    }
-}
-
-// Whether the area's upper end is at most area + allow, the eleventh question.
-pub fn within_allowance(n: u64, q: Sheet, w: Work, area: u64) -> bool
-    requires { Fine n × Sound q × (w ≡ work_of (worked n q)) × (area ≡ (figures n q).area) }
-    ensures { result ≡ allowed n q }
-{
-    let upper = w.area;
-    upper.hi * 100 <= (area + q.allow) * (n * 1_000_000)
 }

@@ -1,130 +1,115 @@
 // The stiffener of a flange: what counts of it, and its stiffness.
 // (docs/WORKING.md, 8 to 10.)
-ghost use Rattle.std.specs.Prelude.{◌≡◌, ◌*◌};
-ghost use Rattle.pair.specs.Pairs.{over};
+ghost use Rattle.std.specs.Prelude.{◌≡◌};
 ghost use Rattle.section.specs.Working.{constant, ◌⊗◌, ◌⊘◌, g, inertia_of, stress_of, flexibility_of, ud⁴, mm, whole};
 ghost use Rattle.section.specs.Room.{CentreRoom, PlateRoom, CubeRoom, FarLipRoom, InertiaRoom, StressRoom, CrossRoom, BendRoom, LoadRoom, UdRoom};
 
-use crate::{Core, Stiffener, widths};
+use crate::{Core, Scale, Steel, Stiffener, widths};
 use pair::Pair;
 
 // g = bp - be2 * be2 / (2 * a).
-pub fn centre(n: u64, bp: Pair, s: Stiffener) -> Pair
-    requires { CentreRoom n bp s }
-    ensures { result ≡ g n bp s }
+#[tactic(auto, unfolding(crate::specs::Working::g))]
+pub fn centre(s: Scale, bp: Pair, x: Stiffener) -> Pair
+    requires { CentreRoom s.fineness bp x }
+    ensures { result ≡ g s.fineness bp x }
 {
-    let be2 = s.be2;
-    let a = s.a;
-    let scale = n * 1_000_000;
-    let square = be2.times(be2, scale);
-    let twice = widths::constant_times(n, 2, 1, a);
-    let part = square.over(twice, scale);
-    bp.minus(part)
+    let units = s.units();
+    let twice = widths::constant_times(s, 2, 1, x.a);
+    bp.minus(x.be2.times(x.be2, units).over(twice, units))
 }
 
 // be2 * t * t / 12.
-fn plate(n: u64, t: Core, be2: Pair) -> Pair
-    requires { PlateRoom n t.0 be2 }
-    ensures { result ≡ ◌⊘◌ n (◌⊗◌ n (◌⊗◌ n be2 (mm n t.0)) (mm n t.0)) (whole n 12) }
+fn plate(s: Scale, t: Core, be2: Pair) -> Pair
+    requires { PlateRoom s.fineness t.0 be2 }
+    ensures { result ≡ ◌⊘◌ s.fineness (◌⊗◌ s.fineness (◌⊗◌ s.fineness be2 (mm s.fineness t.0)) (mm s.fineness t.0)) (whole s.fineness 12) }
 {
-    let s = n * 1_000_000;
-    let once = be2.times_ratio(t.0, 100, s);
-    let twice = once.times_ratio(t.0, 100, s);
-    twice.over_ratio(12, 1, s)
+    let s = s.units();
+    be2.times_ratio(t.0, 100, s)
+        .times_ratio(t.0, 100, s)
+        .over_ratio(12, 1, s)
 }
 
 // c * c * c.
-fn cubed(n: u64, c: Pair) -> Pair
-    requires { CubeRoom n c }
-    ensures { result ≡ ◌⊗◌ n (◌⊗◌ n c c) c }
+fn cubed(s: Scale, c: Pair) -> Pair
+    requires { CubeRoom s.fineness c }
+    ensures { result ≡ ◌⊗◌ s.fineness (◌⊗◌ s.fineness c c) c }
 {
-    let s = n * 1_000_000;
-    let square = c.times(c, s);
-    square.times(c, s)
+    let s = s.units();
+    c.times(c, s).times(c, s)
 }
 
 // solid * be2 / (4 * a).
-fn far_lip(n: u64, solid: Pair, be2: Pair, a: Pair) -> Pair
-    requires { FarLipRoom n solid be2 a }
-    ensures { result ≡ ◌⊘◌ n (◌⊗◌ n solid be2) (◌⊗◌ n (whole n 4) a) }
+fn far_lip(s: Scale, solid: Pair, be2: Pair, a: Pair) -> Pair
+    requires { FarLipRoom s.fineness solid be2 a }
+    ensures { result ≡ ◌⊘◌ s.fineness (◌⊗◌ s.fineness solid be2) (◌⊗◌ s.fineness (whole s.fineness 4) a) }
 {
-    let s = n * 1_000_000;
-    let product = solid.times(be2, s);
-    let four = widths::constant_times(n, 4, 1, a);
-    product.over(four, s)
+    let units = s.units();
+    let four = widths::constant_times(s, 4, 1, a);
+    solid.times(be2, units).over(four, units)
 }
 
 // J = be2 * t * t / 12 + c * c * c / 12 + c * c * c * be2 / (4 * a).
-pub fn inertia(n: u64, t: Core, s: Stiffener) -> Pair
-    requires { InertiaRoom n t.0 s }
-    ensures { result ≡ inertia_of n (mm n t.0) s }
+#[tactic(auto, unfolding(crate::specs::Working::inertia_of))]
+pub fn inertia(s: Scale, t: Core, x: Stiffener) -> Pair
+    requires { InertiaRoom s.fineness t.0 x }
+    ensures { result ≡ inertia_of s.fineness (mm s.fineness t.0) x }
 {
-    let be2 = s.be2;
-    let c = s.c;
-    let a = s.a;
-    let flat = plate(n, t, be2);
-    let solid = cubed(n, c);
-    let own = solid.over_ratio(12, 1, n * 1_000_000);
-    let far = far_lip(n, solid, be2, a);
-    let sum = flat.plus(own);
-    sum.plus(far)
+    let solid = cubed(s, x.c);
+    plate(s, t, x.be2)
+        .plus(solid.over_ratio(12, 1, s.units()))
+        .plus(far_lip(s, solid, x.be2, x.a))
 }
 
 // T = fyb * a / t / 210: divided once, since rounding twice one way is rounding once.
-pub fn stress(n: u64, t: Core, fyb: u64, s: Stiffener) -> Pair
-    requires { StressRoom n t.0 fyb s.a }
-    ensures { result ≡ stress_of n (mm n t.0) (whole n fyb) s }
+pub fn stress(s: Scale, steel: Steel, x: Stiffener) -> Pair
+    requires { StressRoom s.fineness steel.t.0 steel.fyb x.a }
+    ensures { result ≡ stress_of s.fineness (mm s.fineness steel.t.0) (whole s.fineness steel.fyb) x }
 {
-    let a = s.a;
-    let scale = n * 1_000_000;
-    let force = widths::constant_times(n, fyb, 1, a);
-    force.over_ratio(210 * t.0, 100, scale)
+    widths::constant_times(s, steel.fyb, 1, x.a).over_ratio(210 * steel.t.0, 100, s.units())
 }
 
 // 0.5 * g * o * hp * kf.
-fn cross_term(n: u64, g: Pair, o: Pair, hp: Pair, kf: Pair) -> Pair
-    requires { CrossRoom n g o hp kf }
-    ensures { result ≡ ◌⊗◌ n (◌⊗◌ n (◌⊗◌ n (◌⊗◌ n (constant n 1 2) g) o) hp) kf }
+fn cross_term(s: Scale, g: Pair, o: Pair, hp: Pair, kf: Pair) -> Pair
+    requires { CrossRoom s.fineness g o hp kf }
+    ensures { result ≡ ◌⊗◌ s.fineness (◌⊗◌ s.fineness (◌⊗◌ s.fineness (◌⊗◌ s.fineness (constant s.fineness 1 2) g) o) hp) kf }
 {
-    let s = n * 1_000_000;
-    let half = widths::constant_times(n, 1, 2, g);
-    let other = half.times(o, s);
-    let depth = other.times(hp, s);
-    depth.times(kf, s)
+    let units = s.units();
+    widths::constant_times(s, 1, 2, g)
+        .times(o, units)
+        .times(hp, units)
+        .times(kf, units)
 }
 
 // D = g * g * hp + g * g * g + 0.5 * g * o * hp * kf, o being the other flange's g.
-pub fn flexibility(n: u64, hp: Pair, kf: Pair, g: Pair, o: Pair) -> Pair
-    requires { BendRoom n hp kf g o }
-    ensures { result ≡ flexibility_of n hp kf g o }
+#[tactic(auto, unfolding(crate::specs::Working::flexibility_of))]
+pub fn flexibility(s: Scale, hp: Pair, kf: Pair, g: Pair, o: Pair) -> Pair
+    requires { BendRoom s.fineness hp kf g o }
+    ensures { result ≡ flexibility_of s.fineness hp kf g o }
 {
-    let s = n * 1_000_000;
-    let square = g.times(g, s);
-    let depth = square.times(hp, s);
-    let solid = square.times(g, s);
-    let cross = cross_term(n, g, o, hp, kf);
-    let sum = depth.plus(solid);
-    sum.plus(cross)
+    let units = s.units();
+    let square = g.times(g, units);
+    square
+        .times(hp, units)
+        .plus(square.times(g, units))
+        .plus(cross_term(s, g, o, hp, kf))
 }
 
 // D / J * T * T.
-fn load(n: u64, d: Pair, j: Pair, t: Pair) -> Pair
-    requires { LoadRoom n d j t }
-    ensures { result ≡ ◌⊗◌ n (◌⊗◌ n (◌⊘◌ n d j) t) t }
+fn load(s: Scale, d: Pair, j: Pair, t: Pair) -> Pair
+    requires { LoadRoom s.fineness d j t }
+    ensures { result ≡ ◌⊗◌ s.fineness (◌⊗◌ s.fineness (◌⊘◌ s.fineness d j) t) t }
 {
-    let s = n * 1_000_000;
-    let quotient = d.over(j, s);
-    let once = quotient.times(t, s);
-    once.times(t, s)
+    let s = s.units();
+    d.over(j, s).times(t, s).times(t, s)
 }
 
 // The fourth power of ud: D / J * T * T * 0.91 / 1000000.
-pub fn slenderness_fourth(n: u64, d: Pair, j: Pair, t: Pair) -> Pair
-    requires { UdRoom n d j t }
-    ensures { result ≡ ud⁴ n d j t }
+pub fn slenderness_fourth(s: Scale, d: Pair, j: Pair, t: Pair) -> Pair
+    requires { UdRoom s.fineness d j t }
+    ensures { result ≡ ud⁴ s.fineness d j t }
 {
-    let s = n * 1_000_000;
-    let product = load(n, d, j, t);
-    let poisson = product.times_ratio(91, 100, s);
-    poisson.over_ratio(1_000_000, 1, s)
+    let units = s.units();
+    load(s, d, j, t)
+        .times_ratio(91, 100, units)
+        .over_ratio(1_000_000, 1, units)
 }

@@ -4,60 +4,48 @@
 // write the sections and what is to be printed.
 #![tactic(auto)]
 
-mod print;
-
 ghost use Rattle.section.specs.Sound.{Sound};
 
-use certificate::{Found, refusals, verdicts};
-use report::streams;
-use section::{SHEET_LINES, Sheet, sections, sheets};
+use certificate::verdicts;
+use questions::answers::Reason;
+use section::{SHEET_LINES, Sheet, SoundSheet};
 use std::io;
 
-// The number behind so many blanks.
-fn size(line: &[u8], blanks: u64) -> u64 {
-    cases::number(line, blanks).size
-}
-
-fn sheet_in(line: &[u8]) -> Sheet {
+fn sheet_in(line: &str) -> Sheet {
     let mut numbers = [0; SHEET_LINES];
-    let mut i = 0;
-    while i < SHEET_LINES {
-        numbers[i] = size(line, i as u64);
-        i += 1;
+    for (i, number) in numbers.iter_mut().enumerate() {
+        *number = cases::number(line, i);
     }
-    sheets::sheet_of(numbers)
+    Sheet::from(numbers)
 }
 
-// A section that meets questions 2 to 10.
+// The line of a section that meets questions 2 to 10: the ends of area, both factors and shift, then the printed
+// figures.
 fn work(rt: &impl Print, q: Sheet) -> io::Result<()>
     requires { Sound q }
 {
-    let n = sheets::fineness_of(q);
-    let w = sections::work(n, q);
-    let f = sections::figures_of(n, q, w);
-    print::line(rt, w, f)
+    let worked = SoundSheet { sheet: q }.work(q.scale());
+    let w = worked.work;
+    let f = worked.figures();
+    print!(rt; "{} {} {} {} ", w.area.lo, w.area.hi, w.chi1.lo, w.chi1.hi)?;
+    print!(rt;
+        "{} {} {} {} ",
+        w.chi2.lo, w.chi2.hi, w.shift.lo, w.shift.hi
+    )?;
+    print!(rt; "{} {} {} {} ", f.area, f.axial, f.chi1, f.chi2)?;
+    println!(rt; "{} {}", f.shiftlo, f.shifthi)
 }
 
 fn run(rt: &impl Print, q: Sheet) -> io::Result<()> {
-    let found = verdicts::first_refusal(q);
-    match found {
-        Found::Unmet(r) => print::refused(rt, refusals::refusal_answer(r)),
-        Found::Met => work(rt, q),
+    match verdicts::first_refusal(q) {
+        Err(r) => {
+            let a = r.told();
+            println!(rt; "refused {} {}", a.refusal, a.line)
+        }
+        Ok(()) => work(rt, q),
     }
-}
-
-fn run_all(rt: &impl Print, input: &[u8]) -> io::Result<()> {
-    let mut at = 0;
-    while at < input.len() {
-        let end = cases::line_end(input, at);
-        run(rt, sheet_in(&input[at..end]))?;
-        at = end + 1;
-    }
-    Ok(())
 }
 
 fn main(rt: HostRuntime) -> io::Result<()> {
-    let mut buffer = cases::buffer();
-    let n = streams::read(&mut rt.stdin(), &mut buffer)?;
-    run_all(&rt, &buffer[..n])
+    cases::each_line(&mut rt.stdin(), |line| run(&rt, sheet_in(line)))
 }

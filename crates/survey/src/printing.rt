@@ -4,7 +4,8 @@ ghost use Rattle.questions.specs.Buffers.{over};
 ghost use Rattle.survey.specs.Printed.{kept_prints};
 
 use catalogue::counting::LineCount;
-use catalogue::{LONGEST_REPORT, MOST_SHEETS, ReportRefusal, counting, refusals, reports};
+use catalogue::{LONGEST_REPORT, MOST_SHEETS, ReportRefusal, counting, reports};
+use questions::answers::Reason;
 use report::printing;
 
 // Writes what is printed for an input at the start of out, and answers its length: these bytes of
@@ -16,7 +17,7 @@ pub fn survey_prints(kept: &[u8], lines: LineCount, out: &mut [u8; LONGEST_REPOR
     ensures room { 27088 ≡ length out.new }
 {
     if MOST_SHEETS < counting::sheet_count(lines) {
-        let many = refusals::report_answer(ReportRefusal::SheetCount);
+        let many = ReportRefusal::SheetCount.told();
         return printing::put_refusal(out, many);
     }
     let answer = reports::report(kept, out);

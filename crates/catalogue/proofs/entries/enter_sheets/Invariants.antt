@@ -1,11 +1,9 @@
--- `entries::enter_sheets` meets its contract. The invariant: `place` sheets are entered, and the next begins at `at`.
-use Prim.Native.Nat.{◌-◌}
-use lib.ListN.{length}
+-- `entries::enter_sheets` meets its contract. The invariant: `place` sheets are entered, and what is left begins with the next.
 use Rattle.catalogue.proofs.EntryLoop.{Begun}
 use Rattle.catalogue.proofs.entries.enter_sheets.Given as goal
 
-abbrev pub invariant-loop-at : goal.invariant-loop-at
-invariant-loop-at l = Begun l.s l.initial.rows l.at l.place l.used l.counts l.rows
-
-abbrev pub decreases-loop-at : goal.decreases-loop-at
-decreases-loop-at l = length l.s - l.at
+abbrev pub invariant-loop-sheet : goal.invariant-loop-sheet
+invariant-loop-sheet l =
+    (goal.iterator-loop-sheet).can_next l.sheet-iterator
+    × (goal.iterator-loop-sheet).is_finite l.sheet-iterator
+    × Begun l.s l.sheet-iterator.rest.now l.place l.counts l.rows.items

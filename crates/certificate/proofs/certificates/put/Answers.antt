@@ -1,33 +1,36 @@
--- `certificate::certificates::put` meets its contract.
-use Prim.Native.Nat.{ℕ, ◌≤◌}
-use mathlib.Core.Path.{ap, ◌∙◌}
+use mathlib.Core.List.{List}
+use mathlib.Core.Path.{sym, ap, ◌∙◌}
 use native.Mathlib.Omega.{arith}
 use lib.ListN.{length}
+use Rattle.std.proofs.lemmas.Grind.{common_steps}
+use Rattle.std.specs.Prelude.{ℕ}
+use Rattle.lines.specs.Fitting.{fitted, buffer_fitted}
+use Rattle.lines.proofs.Laws.{buffer_as_told, refused_as_told, written_as_told}
 use Rattle.certificate.specs.declared.Refusal.TheVariants.{Room}
-use Rattle.certificate.specs.Refusals.{refusal_answer}
 use Rattle.certificate.specs.Forms.{certificate_text}
 use Rattle.certificate.proofs.Lengths.{longest_certificate}
-use Rattle.questions.proofs.Laws.{fits, too_long, answers_refusal, answers_text}
 use Rattle.certificate.proofs.certificates.put.Goals as goal
-use Rattle.certificate.proofs.certificates.put.Goals.{then-buffer-lt-LONGEST_CERTIFICATE+else-buffer-needed, else-buffer-lt-LONGEST_CERTIFICATE}
 
-pub returns-then-buffer-needed : goal.returns-then-buffer-needed
-returns-then-buffer-needed c =
-    let s = c in
-    let b = s.args.buffer.now in
-    let t = certificate_text s.args.values in
-    let needed = c.text_length-needed.ensures.value in record { value = (answers_refusal refusal_answer _ _ b (Room (length t)) (too_long Room (length b) t (omega (arith, needed, c.if-buffer-needed.true))) (c.refusal_answer.ensures ∙ ap (λ (n : ℕ). refusal_answer (Room n)) needed)).0; buffer_after = (answers_refusal refusal_answer _ _ b (Room (length t)) (too_long Room (length b) t (omega (arith, needed, c.if-buffer-needed.true))) (c.refusal_answer.ensures ∙ ap (λ (n : ℕ). refusal_answer (Room n)) needed)).1 }
+pub write_fitted-requires : goal.write_fitted-requires
+write_fitted-requires c = rw c.text-text.ensures (omega (arith, c.requires, longest_certificate))
 
-pub put_text-n-requires : goal.put_text-n-requires
-put_text-n-requires c =
-    let room : length (certificate_text c.args.values) ≤ length c.args.buffer.now = let s = c in elim c.if-buffer-lt-LONGEST_CERTIFICATE.branch [ then-buffer-lt-LONGEST_CERTIFICATE+else-buffer-needed w ↦ omega (arith, w.text_length-needed.ensures.value, w.if-buffer-needed.false) | else-buffer-lt-LONGEST_CERTIFICATE w ↦ omega (arith, s.requires, longest_certificate, w.if-buffer-lt-LONGEST_CERTIFICATE.false) ] in
-    room
+pub returns-in_err-write_fitted : goal.returns-in_err-write_fitted
+returns-in_err-write_fitted c =
+    let b = c.args.buffer.now in
+    let t = certificate_text c.args.values in
+    let w = c.write_fitted.ensures in
+    let told = refused_as_told Room t b (ap (fitted (length b)) (sym c.text-text.ensures) ∙ sym w.value ∙ c.in_err-write_fitted.was) in
+    record {
+      value = grind (arith, common_steps, told);
+      buffer_after = w.buffer_after ∙ ap (λ (l : List ℕ). buffer_fitted l b) c.text-text.ensures ∙ buffer_as_told Room t b;
+    }
 
 pub returns : goal.returns
 returns c =
-    let room : length (certificate_text c.args.values) ≤ length c.args.buffer.now = let s = c in elim c.if-buffer-lt-LONGEST_CERTIFICATE.branch [ then-buffer-lt-LONGEST_CERTIFICATE+else-buffer-needed w ↦ omega (arith, w.text_length-needed.ensures.value, w.if-buffer-needed.false) | else-buffer-lt-LONGEST_CERTIFICATE w ↦ omega (arith, s.requires, longest_certificate, w.if-buffer-lt-LONGEST_CERTIFICATE.false) ] in
-    let j = c in
-    let s = j in
-    let b = s.args.buffer.now in
-    let t = certificate_text s.args.values in
-    let w = c.put_text-n.ensures in record { value = (answers_text refusal_answer _ _ b t _ _ (fits Room (length b) t room) w.value c.answer.ensures w.out_after).0; buffer_after = (answers_text refusal_answer _ _ b t _ _ (fits Room (length b) t room) w.value c.answer.ensures w.out_after).1 }
+    let b = c.args.buffer.now in
+    let t = certificate_text c.args.values in
+    let w = c.write_fitted.ensures in
+    record {
+      value = sym (written_as_told Room t b (ap (fitted (length b)) (sym c.text-text.ensures) ∙ sym w.value ∙ c.in_ok-write_fitted.was));
+      buffer_after = w.buffer_after ∙ ap (λ (l : List ℕ). buffer_fitted l b) c.text-text.ensures ∙ buffer_as_told Room t b;
+    }

@@ -1,38 +1,23 @@
 -- `certificate::verdicts::allowance` meets its contract.
-use mathlib.Core.Path.{sym, ap, ◌∙◌, subst}
-use Rattle.section.specs.declared.Figures.{Figures}
-use Rattle.section.specs.Parts.{Fine}
-use Rattle.section.specs.Figures.{figures}
-use Rattle.section.proofs.Laws.{area_of_form, fineness-Fine}
-use Rattle.certificate.proofs.Steps.{within, beyond}
+use mathlib.Core.Path.{sym, ◌∙◌}
+use Rattle.section.specs.Figures.{own_figures}
+use Rattle.std.proofs.Common.{arith}
+use Rattle.std.proofs.lemmas.Grind.{common_steps}
+use Rattle.certificate.proofs.Steps.{eleventh_unmet, eleventh_met}
 use Rattle.certificate.proofs.verdicts.allowance.Goals as goal
 
-pub fineness_of-n-requires : goal.fineness_of-n-requires
-fineness_of-n-requires c = c.requires.q2
+pub scale-requires : goal.scale-requires
+scale-requires c = c.requires.q2
 
-pub work-w-requires : goal.work-w-requires
-work-w-requires c =
-    let fine : Fine c.fineness_of-n.result = subst Fine (sym c.fineness_of-n.ensures) (fineness-Fine c.args.q c.requires.q2) in
-    (fine, c.requires)
+pub returns-in_err-ask : goal.returns-in_err-ask
+returns-in_err-ask c =
+    let own = c.work-worked.ensures.scale ∙ c.scale.ensures in
+    let within = rw c.work-worked.ensures.sheet at c.within_allowance.ensures in
+    let e = eleventh_unmet c.args.q own within (own_figures c.args.q) (sym c.ask.ensures ∙ c.in_err-ask.was) in
+    grind (arith, common_steps, e)
 
-pub figures_of-figures-requires : goal.figures_of-figures-requires
-figures_of-figures-requires c =
-    let fine : Fine c.fineness_of-n.result = subst Fine (sym c.fineness_of-n.ensures) (fineness-Fine c.args.q c.requires.q2) in
-    (fine, c.requires, c.work-w.ensures)
-
-pub within_allowance-requires : goal.within_allowance-requires
-within_allowance-requires c =
-    let fine : Fine c.fineness_of-n.result = subst Fine (sym c.fineness_of-n.ensures) (fineness-Fine c.args.q c.requires.q2) in
-    let n = c.fineness_of-n.result in
-    let area = ap (λ (f : Figures). f.area) c.figures_of-figures.ensures ∙ area_of_form (figures n c.args.q) in
-    (fine, c.requires, c.work-w.ensures, area)
-
-pub returns-then-within_allowance : goal.returns-then-within_allowance
-returns-then-within_allowance c =
-    let own = c.fineness_of-n.ensures in
-    within c.args.q own c.within_allowance.ensures c.if-within_allowance.true c.figures_of-figures.ensures
-
-pub returns-else-within_allowance : goal.returns-else-within_allowance
-returns-else-within_allowance c =
-    let own = c.fineness_of-n.ensures in
-    beyond c.args.q own c.within_allowance.ensures c.if-within_allowance.false
+pub returns : goal.returns
+returns c =
+    let same = c.work-worked.ensures.sheet in
+    let own = c.work-worked.ensures.scale ∙ c.scale.ensures in
+    sym (eleventh_met c.args.q own (rw same at c.within_allowance.ensures) (sym c.ask.ensures ∙ c.in_ok-ask.was) (rw same at c.figures.ensures))

@@ -1,50 +1,54 @@
-use Prim.Native.Nat.{◌+◌}
-use mathlib.Core.List.{List, ◌++◌, append-nil}
-use mathlib.Core.Path.{sym, ap, ◌∙◌}
+use Prim.Native.Nat.{ℕ, ◌+◌}
+use mathlib.Core.List.{List, [], ◌++◌, map, append-nil}
+use mathlib.Core.Path.{◌≡◌, refl, sym, ap, ◌∙◌}
 use native.Mathlib.Omega.{arith}
-use lib.IntN.{ℤ}
-use lib.ListN.{get_or, set, length-append}
+use lib.IntN.{ℤ, pos}
+use lib.ListN.{length, length-set, length-map, get_or, get_or-map, take}
 use lib.Seq.{take_all}
-use Rattle.pair.specs.declared.signed.Integer.{Integer}
-use Rattle.section.specs.Sheets.{sheet_lines}
+use Rattle.std.proofs.Common.{rules}
+use Rattle.section.specs.Sheets.{sheet_lines, values_of}
 use Rattle.section.specs.Figures.{own_figures}
-use Rattle.lines.specs.Forms.{array_of}
-use Rattle.lines.proofs.Laws.{no_value}
-use Rattle.certificate.specs.Keys.{certificate_lines}
+use Rattle.certificate.specs.Keys.{figure_lines, certificate_lines}
 use Rattle.certificate.specs.Certificates.{sheet_values, figure_values, certificate_values}
-use Rattle.certificate.proofs.Arrays.{element, value_put, array_full}
-use Rattle.certificate.proofs.Shown.{sheet_count, figure_count}
+use Rattle.certificate.proofs.Arrays.{value_put}
 use Rattle.certificate.proofs.writing.line_values.Goals as goal
-
-pub loop-i-init : goal.loop-i-init
-loop-i-init c = (omega arith, λ us ws e n f m. e ∙ ap (array_of certificate_lines) (sym (append-nil us)))
-
-pub bounds-figures-i : goal.bounds-figures-i
-bounds-figures-i c = omega (arith, c.loop-i-test.true)
-
-pub bounds-values-i : goal.bounds-values-i
-bounds-values-i c = omega (arith, c.loop-i-test.true)
 
 pub loop-i-preserved : goal.loop-i-preserved
 loop-i-preserved c =
-    let turn = c in
-    let h = turn.loop-i in
-    let below = turn.loop-i-test.true in (
-      omega (arith, below),
-      λ us ws e n f m.
-          ap (λ (l : List Integer). set l (sheet_lines + h.i) (get_or turn.figure_values-figures.result h.i no_value)) (h.invariant.1 us ws e n f m)
-          ∙ value_put certificate_lines us ws h.i (sheet_lines + h.i) _ (omega (arith, n)) (omega (arith, m, below)) (omega (arith, below)) (element ws h.i f),
-    )
+    let h = c.loop-i in
+    let ns = c.from-numbers.result in
+    let count : length ns ≡ sheet_lines = search rules in
+    let e : c.from.result ≡ get_or (map pos ns) h.i (pos 0) = c.from.ensures ∙ sym (get_or-map pos ns h.i 0) in
+    let put = value_put h.values [] (map pos ns) h.i h.i c.from.result h.invariant.1 (omega arith) (omega (arith, length-map ns pos)) e in
+    (length-set h.values h.i _ ∙ h.invariant.0, search (rules, put))
+
+pub loop-i-2-init : goal.loop-i-2-init
+loop-i-2-init c = (c.loop-i.invariant.0, sym (append-nil (take sheet_lines c.loop-i.values)))
+
+pub loop-i-2-preserved : goal.loop-i-2-preserved
+loop-i-2-preserved c =
+    let h = c.loop-i-2 in
+    let fs = c.figure_values-figures.result in
+    let count : length fs ≡ figure_lines = search rules in
+    let put = value_put h.values (take sheet_lines c.loop-i.values) fs (sheet_lines + h.i) h.i (get_or fs h.i (pos 0)) h.invariant.1 (omega arith) (omega arith) refl in
+    (length-set h.values (sheet_lines + h.i) _ ∙ h.invariant.0, search (rules, put))
 
 pub returns : goal.returns
-unfolding certificate_values
+unfolding certificate_values sheet_values
 returns c =
-    let h = c.loop-i in
     let q = c.args.q in
-    let us = sheet_values q in
-    let ws = figure_values (own_figures q) in
-    let n = sheet_count q in
-    let m = figure_count (own_figures q) in
-    h.invariant.1 us ws c.sheet_values-values.ensures n (c.figure_values-figures.ensures (own_figures q) c.requires) m
-    ∙ ap (λ (l : List ℤ). array_of certificate_lines (us ++ l)) (take_all h.i ws (omega (arith, m, c.loop-i-test.false)))
-    ∙ array_full certificate_lines (us ++ ws) (omega (arith, n, m, length-append us ws))
+    let a = c.loop-i in
+    let b = c.loop-i-2 in
+    let fs = c.figure_values-figures.result in
+    let ns = c.from-numbers.result in
+    let sheet_end : a.i ≡ sheet_lines = omega arith in
+    let figures_end : sheet_lines + b.i ≡ certificate_lines = omega arith in
+    let numbers_count : length ns ≡ sheet_lines = search rules in
+    let figures_count : length fs ≡ figure_lines = search rules in
+    let front : take sheet_lines a.values ≡ map pos ns =
+    ap (λ (k : ℕ). take k a.values) (sym sheet_end) ∙ a.invariant.1 ∙ take_all a.i (map pos ns) (omega (arith, length-map ns pos)) in
+    let behind : take b.i fs ≡ figure_values (own_figures q) = take_all b.i fs (omega arith) ∙ c.figure_values-figures.ensures (own_figures q) c.requires in
+    sym (take_all (sheet_lines + b.i) b.values (omega (arith, b.invariant.0)))
+    ∙ b.invariant.1
+    ∙ ap (λ (l : List ℤ). l ++ take b.i fs) (front ∙ ap (map pos) c.from-numbers.ensures)
+    ∙ ap (λ (l : List ℤ). map pos (values_of q) ++ l) behind

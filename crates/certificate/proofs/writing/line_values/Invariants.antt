@@ -1,20 +1,15 @@
--- `certificate::writing::line_values` meets its contract. The invariant: behind the sheet's values stand the figures' up to place i.
-use Prim.Native.Nat.{◌-◌, ◌≤◌}
-use mathlib.Core.List.{List, ◌++◌, map}
+-- The values so far are the sheet's, and behind them the figures'.
+use Prim.Native.Nat.{◌+◌}
+use mathlib.Core.List.{◌++◌, map}
 use mathlib.Core.Path.{◌≡◌}
-use lib.IntN.{ℤ}
+use lib.IntN.{pos}
 use lib.ListN.{length, take}
-use Rattle.pair.specs.Forms.{plain}
 use Rattle.section.specs.Sheets.{sheet_lines}
-use Rattle.lines.specs.Forms.{array_of}
-use Rattle.certificate.specs.Keys.{figure_lines, certificate_lines}
+use Rattle.certificate.specs.Keys.{certificate_lines}
 use Rattle.certificate.proofs.writing.line_values.Given as goal
 
 abbrev pub invariant-loop-i : goal.invariant-loop-i
-invariant-loop-i l =
-    (l.i ≤ figure_lines)
-    × ((us ws : List ℤ) → l.initial.values ≡ array_of certificate_lines us → length us ≡ sheet_lines → l.figures ≡ map plain ws → length ws ≡ figure_lines
-    → l.values ≡ array_of certificate_lines (us ++ take l.i ws))
+invariant-loop-i l = (length l.values ≡ certificate_lines) × (take l.i l.values ≡ take l.i (map pos l.numbers))
 
-abbrev pub decreases-loop-i : goal.decreases-loop-i
-decreases-loop-i l = figure_lines - l.i
+abbrev pub invariant-loop-i-2 : goal.invariant-loop-i-2
+invariant-loop-i-2 l = (length l.values ≡ certificate_lines) × (take (sheet_lines + l.i) l.values ≡ take sheet_lines l.initial.values ++ take l.i l.figures)

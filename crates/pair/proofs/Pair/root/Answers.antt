@@ -1,20 +1,19 @@
--- `pair::Pair::root` meets its contract.
-use native.Mathlib.Nat.{lt_of_le_of_lt, mul-le-mul_right}
+use Rattle.std.proofs.Math.Nat.{lt_of_le_of_lt, mul-le-mul_right}
 use Rattle.pair.specs.Pairs.{root}
 use Rattle.pair.proofs.Fitting.{root_out}
-use Rattle.pair.proofs.Extraction.{square_down}
+use Rattle.pair.proofs.Extraction.{square_rooted, square_down}
 use Rattle.pair.proofs.Pair.root.Goals as goal
 
-pub scaled_square-below-requires : goal.scaled_square-below-requires
-scaled_square-below-requires c =
+pub scaled-below-requires : goal.scaled-below-requires
+scaled-below-requires c =
     let fit = root_out c.args.s c.args.self c.requires in
-    (fit.1, lt_of_le_of_lt (mul-le-mul_right c.args.s fit.0) fit.2)
+    record { scale = fit.1; fits = lt_of_le_of_lt (mul-le-mul_right c.args.s fit.0) fit.2 }
 
-pub square_above-requires : goal.square_above-requires
-square_above-requires c =
+pub above-requires : goal.above-requires
+above-requires c =
     let fit = root_out c.args.s c.args.self c.requires in
-    (fit.0, fit.1, fit.2, c.scaled_square-below.ensures)
+    record { order = fit.0; scale = fit.1; fits = fit.2; taken = c.scaled-below.ensures }
 
 pub returns : goal.returns
 unfolding root
-returns c = λ i. record { lo = square_down c.scaled_square-below.ensures i; hi = c.square_above.ensures i }
+returns c = λ i. record { lo = square_down (square_rooted c.scaled-below.result c.scaled-below.ensures) i; hi = c.above.ensures i }

@@ -1,13 +1,9 @@
--- `pair::Pair::times_ratio` meets its contract.
-use Rattle.pair.proofs.Outward.{floor_asked, ceil_asked, outward_is}
+use Rattle.pair.proofs.Outward.{floor_asked, ceil_asked}
 use Rattle.pair.proofs.Ratios.{times_by_ratio}
 use Rattle.pair.proofs.Pair.times_ratio.Goals as goal
 
-pub returns : goal.returns
-returns c = outward_is (times_by_ratio _ _ _ _ c.requires) c.floor_of.ensures c.ceil_of.ensures
+pub by-requires : goal.by-requires
+by-requires c = let asked = floor_asked (times_by_ratio _ _ _ _ c.requires) in record { some = asked.0; fits = asked.1 }
 
-pub floor_of-requires : goal.floor_of-requires
-floor_of-requires c = floor_asked (times_by_ratio _ _ _ _ c.requires)
-
-pub ceil_of-requires : goal.ceil_of-requires
-ceil_of-requires c = ceil_asked (times_by_ratio _ _ _ _ c.requires)
+pub by-requires-2 : goal.by-requires-2
+by-requires-2 c = let asked = ceil_asked (times_by_ratio _ _ _ _ c.requires) in record { some = asked.0; fits = asked.1 }

@@ -1,13 +1,11 @@
 -- `section::factors::factor` meets its contract.
-use Rattle.section.proofs.FactorForms.{χ_below, χ_beyond}
+use Rattle.std.proofs.Common.{◌∙◌}
+use Rattle.section.proofs.FactorForms.{factor_below, factor_beyond}
 use Rattle.section.proofs.factors.factor.Goals as goal
 
-pub returns-then-high-jump : goal.returns-then-high-jump
-returns-then-high-jump c =
-    let start = c in
-    χ_below start.args.n start.args.u c.if-high-jump.true c.before_down.ensures c.before_up.ensures
+pub returns-then-u-jump : goal.returns-then-u-jump
+returns-then-u-jump c =
+    (λ i. record { lo = c.before_jump.ensures i; hi = c.before_jump-then-u-jump.ensures i }) ∙ factor_below _ c.args.u c.if-u-jump.true
 
 pub returns : goal.returns
-returns c =
-    let start = c in
-    χ_beyond start.args.n start.args.u c.if-low-jump.false start.requires.order c.from_down.ensures c.from_up.ensures
+returns c = (λ i. record { lo = c.past_jump.ensures i; hi = c.past_jump-2.ensures i }) ∙ factor_beyond _ c.args.u c.if-u-jump-2.false c.requires.order

@@ -21,7 +21,7 @@ use Rattle.survey.proofs.printing.survey_prints.Goals as goal
 
 pub returns-then-sheet_count-gt-MOST_SHEETS : goal.returns-then-sheet_count-gt-MOST_SHEETS
 returns-then-sheet_count-gt-MOST_SHEETS c =
-    let refusal_lines_lem : refusal_lines c.report_answer-many.result ≡ kept_prints c.args.kept.now c.args.lines = ap refusal_lines c.report_answer-many.ensures ∙ sym (too_many c.args.kept.now c.args.lines (omega arith)) in
+    let refusal_lines_lem : refusal_lines c.told-many.result ≡ kept_prints c.args.kept.now c.args.lines = ap refusal_lines c.told-many.ensures ∙ sym (too_many c.args.kept.now c.args.lines (omega arith)) in
     let a = c in
     let put = c.put_refusal.ensures in record {
       value = put.value ∙ ap length refusal_lines_lem;
