@@ -55,9 +55,14 @@ fn word(line: &str, blanks: usize) -> &str {
     line.split(' ').nth(blanks).unwrap_or("")
 }
 
+// The number that a word is, 0 where it is none.
+fn size(word: &str) -> u64 {
+    word.parse().unwrap_or(0)
+}
+
 // The number that stands there, 0 where none does.
 pub fn number(line: &str, blanks: usize) -> u64 {
-    word(line, blanks).parse().unwrap_or(0)
+    size(word(line, blanks))
 }
 
 // The same of a number that may lie below zero.
@@ -66,7 +71,7 @@ pub fn integer(line: &str, blanks: usize) -> i128
 {
     let word = word(line, blanks);
     match word.strip_prefix('-') {
-        Some(size) => -(size.parse::<u64>().unwrap_or(0) as i128),
-        None => word.parse::<u64>().unwrap_or(0) as i128,
+        Some(digits) => -i128::from(size(digits)),
+        None => i128::from(size(word)),
     }
 }

@@ -1,15 +1,19 @@
 -- Sheets one more: their counts, the lines of the accepted ones, and whether all meet the first question.
 use Rattle.std.specs.Prelude.{Result, Ok, Err}
-use Prim.Native.Nat.{ℕ, zero, suc, ◌+◌, ◌*◌, ◌≤◌, ◌<◌}
-use mathlib.Core.Bool.{Bool, true, false, cond}
+use Prim.Native.Nat.{ℕ, zero, suc, ◌+◌, ◌≤◌, ◌<◌}
+use mathlib.Core.Bool.{true, false, cond}
 use mathlib.Core.List.{List, [], ◌∷◌, ◌++◌, append_assoc, append-nil, map, map-append}
 use mathlib.Core.Logic.{◌⊎◌, inl, inr, ⊎_elim}
 use mathlib.Core.Path.{◌≡◌, refl, sym, ap, ◌∙◌}
 use native.Mathlib.Nat.{zero-add}
 use native.Mathlib.Omega.{arith}
-use borrow.Author.Tests.{eq-eqb, ne_eqb}
+use borrow.Author.Tests.{eqb-true, eqb-false}
+use Rattle.std.specs.List.{range_with_len}
+use Rattle.std.proofs.lemmas.Grind.{get_or-set_at}
+use Rattle.std.proofs.lemmas.List.{get_or-set_other}
+use Rattle.std.proofs.lemmas.List.FromFn.{length-map-range_with_len, get_or-map-range_with_len, fill_by_all}
 use lib.Dec.{eqb}
-use lib.ListN.{length, get_or, set, length-append}
+use lib.ListN.{length, get_or, set, length-set, length-append}
 use Rattle.pair.proofs.Numbers.{by_test}
 use Rattle.questions.specs.Claims.{test}
 use Rattle.questions.specs.Asking.{asked_from, first_of}
@@ -65,6 +69,8 @@ module _ (s : List ℕ) (place : ℕ) where
         ∙ ap {B = Result Row Refusal} (λ (n : ℕ). Ok (record { place = place; area = n; axial = (figures_in (certificate_of q)).axial })) (sym shown.0)
         ∙ ap {B = Result Row Refusal} (λ (n : ℕ). Ok (record { place = place; area = f.area; axial = n })) (sym shown.1)
 
+pub ruleset judging = (judged_bad, judged_refused, judged_row)
+
 row_numbers : (place : ℕ) (o : Outcome Refusal) → map numbers_of (rows_entered (row_of place o)) ≡ rows_at place o
 unfolding rows_at row_of
 row_numbers place (refused r) = refl
@@ -84,57 +90,34 @@ counted_most (p ∷ ps) k =
     (λ e. omega (arith, counted_most ps k))
     (λ e. omega (arith, counted_most ps k))
 
--- a function's values at k numbers from a on; at one of them it has another value
-unfoldable pub numbers_from : ℕ → ℕ → List ℕ
-numbers_from a zero = []
-numbers_from a (suc k) = a ∷ numbers_from (suc a) k
-
-values_at : (f : ℕ → ℕ) (a k i : ℕ) → i < k → get_or (map f (numbers_from a k)) i 0 ≡ f (a + i)
-unfolding numbers_from
-values_at f a zero i h = absurd (omega arith)
-values_at f a (suc k) zero h = let here : a ≡ a + 0 = omega arith in ap f here
-values_at f a (suc k) (suc i) h = let next : suc a + i ≡ a + suc i = omega arith in values_at f (suc a) k i (omega arith) ∙ ap f next
-
-values_same : (f g : ℕ → ℕ) (a k : ℕ) → ((i : ℕ) → a ≤ i → g i ≡ f i) → map f (numbers_from a k) ≡ map g (numbers_from a k)
-unfolding numbers_from
-values_same f g a zero h = refl
-values_same f g a (suc k) h =
-    ap (λ (x : ℕ). x ∷ map f (numbers_from (suc a) k)) (sym (h a (omega arith)))
-    ∙ ap (λ (l : List ℕ). g a ∷ l) (values_same f g (suc a) k (λ i le. h i (omega arith)))
-
-values_set : (f g : ℕ → ℕ) (a k i : ℕ) → i < k → ((j : ℕ) → (j ≡ a + i → ⊥) → g j ≡ f j)
-    → set (map f (numbers_from a k)) i (g (a + i)) ≡ map g (numbers_from a k)
-unfolding numbers_from
-values_set f g a zero i h other = absurd (omega arith)
-values_set f g a (suc k) zero h other =
-    let here : a + 0 ≡ a = omega arith in
-    ap (λ (x : ℕ). g x ∷ map f (numbers_from (suc a) k)) here
-    ∙ ap (λ (l : List ℕ). g a ∷ l) (values_same f g (suc a) k (λ j le. other j (λ e. omega arith)))
-values_set f g a (suc k) (suc i) h other =
-    let next : suc a + i ≡ a + suc i = omega arith in
-    ap (λ (x : ℕ). f a ∷ set (map f (numbers_from (suc a) k)) i (g x)) (sym next)
-    ∙ ap (λ (x : ℕ). x ∷ set (map f (numbers_from (suc a) k)) i (g (suc a + i))) (sym (other a (λ e. omega arith)))
-    ∙ ap (λ (l : List ℕ). g a ∷ l) (values_set f g (suc a) k i (omega arith) (λ j n. other j (λ e. n (omega arith))))
-
 -- The counts of sheets, and of one sheet more.
-counts_are : (ps : List (List ℕ)) → counts_of ps ≡ map (counted ps) (numbers_from 0 12)
-unfolding counts_of numbers_from
+counts_are : (ps : List (List ℕ)) → counts_of ps ≡ map (counted ps) (range_with_len 0 12)
+unfolding counts_of
 counts_are ps = refl
 
 module _ (ps : List (List ℕ)) where
   pub count_at : (i : ℕ) → i ≤ 11 → get_or (counts_of ps) i 0 ≡ counted ps i
-  count_at i h = ap (λ (l : List ℕ). get_or l i 0) (counts_are ps) ∙ values_at (counted ps) 0 12 i (omega arith) ∙ ap (counted ps) (zero-add i)
+  count_at i h = ap (λ (l : List ℕ). get_or l i 0) (counts_are ps) ∙ get_or-map-range_with_len (counted ps) 0 12 i i 0 (omega arith) (zero-add i)
+
+  counts_length : length (counts_of ps) ≡ 12
+  counts_length = ap length (counts_are ps) ∙ length-map-range_with_len (counted ps) 0 12
+
+  -- one more under the number of p, and the others as before
+  count_next : (p : List ℕ) (k : ℕ) → k < 12 → get_or (set (counts_of ps) (number_of p) (get_or (counts_of ps) (number_of p) 0 + 1)) k 0 ≡ counted (ps ++ (p ∷ [])) k
+  count_next p k h =
+      let n = number_of p in
+      let cs = counts_of ps in
+      by_test (eqb n k) (λ b. get_or (set cs n (get_or cs n 0 + 1)) k 0 ≡ counted ps k + cond b 1 0)
+      (λ e.
+      let same = eqb-true n k e in
+      get_or-set_at cs n k (get_or cs n 0 + 1) 0 (sym same) (omega (arith, counts_length, number_most p))
+      ∙ omega (arith, count_at n (number_most p), ap (counted ps) same))
+      (λ e. get_or-set_other cs n k (get_or cs n 0 + 1) 0 (λ same. eqb-false n k e (sym same)) ∙ count_at k (omega arith) ∙ omega arith)
+      ∙ sym (counted_more ps p k)
 
   pub counts_next : (p : List ℕ) → set (counts_of ps) (number_of p) (get_or (counts_of ps) (number_of p) 0 + 1) ≡ counts_of (ps ++ (p ∷ []))
   counts_next p =
-      let n = number_of p in
-      let one : get_or (counts_of ps) n 0 + 1 ≡ counted (ps ++ (p ∷ [])) n =
-      ap (λ (k : ℕ). k + 1) (count_at n (number_most p)) ∙ sym (counted_more ps p n ∙ ap (λ (b : Bool). counted ps n + cond b 1 0) (eq-eqb n n refl)) in
-      ap (set (counts_of ps) n) one ∙ ap (λ (l : List ℕ). set l n (counted (ps ++ (p ∷ [])) n)) (counts_are ps)
-      ∙ ap (λ (k : ℕ). set (map (counted ps) (numbers_from 0 12)) n (counted (ps ++ (p ∷ [])) k)) (sym (zero-add n))
-      ∙ values_set (counted ps) (counted (ps ++ (p ∷ []))) 0 12 n (omega (arith, number_most p))
-      (λ j other. counted_more ps p j ∙ ap (λ (b : Bool). counted ps j + cond b 1 0) (ne_eqb n j (λ e. other (sym e ∙ sym (zero-add n)))) ∙ omega arith)
-      ∙ sym (counts_are (ps ++ (p ∷ [])))
+      fill_by_all (counted (ps ++ (p ∷ []))) _ 12 0 (length-set (counts_of ps) (number_of p) _ ∙ counts_length) (count_next p) ∙ sym (counts_are (ps ++ (p ∷ [])))
 
 -- The lines of the accepted sheets, and of one sheet more.
 pub rows_more : (place : ℕ) (ps : List (List ℕ)) (p : List ℕ) → rows_of place (ps ++ (p ∷ [])) ≡ rows_of place ps ++ rows_entered (row_of (place + length ps) (certified p))

@@ -27,11 +27,6 @@ pub Begun-none : (s counts : List ℕ) (rows : List Row) → counts ≡ replicat
 unfolding question15 counts_of counted rows_of
 Begun-none s counts rows e h = record { left = refl; finds = refl; counted_so = e; entered = h }
 
-module _ {s rest : List ℕ} {place : ℕ} {counts : List ℕ} {rows : List Row} (h : Begun s rest place counts rows) where
-  pub counts_kept : length counts ≡ 12
-  unfolding counts_of
-  counts_kept = ap length h.counted_so
-
 -- all sheets are entered
 module _ {s rest : List ℕ} {place : ℕ} {counts : List ℕ} {rows : List Row} (h : Begun s rest place counts rows) (done : rest ≡ []) where
   none_left : drop place (sheets_in s) ≡ []
@@ -49,7 +44,7 @@ module _ {s rest : List ℕ} {place : ℕ} {counts : List ℕ} {rows : List Row}
   pub all_rows : rows ≡ rows_of 1 (sheets_in s)
   all_rows = h.entered ∙ ap (rows_of 1) all_taken
 
--- One sheet more.
+-- One sheet more, and what is judged of it.
 module _ {s rest : List ℕ} {place : ℕ} {counts : List ℕ} {rows : List Row} (h : Begun s rest place counts rows) (more : 0 < length rest) where
   abbrev P : List (List ℕ)
   P = sheets_in s
@@ -60,13 +55,10 @@ module _ {s rest : List ℕ} {place : ℕ} {counts : List ℕ} {rows : List Row}
   abbrev then_left : List ℕ
   then_left = drop (sheet_length rest) rest
 
-  abbrev j : Result Row Refusal
-  j = row_of (place + 1) (certified p)
-
   next_sheet : drop place P ≡ p ∷ sheets_in then_left
   next_sheet = sym h.left ∙ sheets_first rest more
 
-  pub place_below : place < length P
+  place_below : place < length P
   place_below = omega (arith, ap length next_sheet, length-drop place P)
 
   taken : take (place + 1) P ≡ take place P ++ (p ∷ [])
@@ -78,49 +70,54 @@ module _ {s rest : List ℕ} {place : ℕ} {counts : List ℕ} {rows : List Row}
   before : length (take place P) ≡ place
   before = omega (arith, length-take place P, place_below)
 
-  -- its number is one that is counted, and there is room for its row
-  pub number_below : number_answered j < 12
-  number_below = omega (arith, number_is (place + 1) p, number_most p)
-
-  pub count_below : length P ≤ most_sheets → get_or counts (number_answered j) 0 < most_sheets
-  count_below few =
-      omega (
-        arith,
-        ap (λ (l : List ℕ). get_or l (number_answered j) 0) h.counted_so,
-        count_at (take place P) (number_answered j) (omega (arith, number_below)),
-        counted_most (take place P) (number_answered j),
-        before,
-        place_below,
-      )
-
   pub row_room : length P ≤ most_sheets → length rows < most_sheets
   row_room few = omega (arith, ap length h.entered, rows_most 1 (take place P), before, place_below)
 
-  -- it fails the first question
-  pub stopped : number_answered j ≡ 1 → first_of (question15 P) ≡ Err (Misspelt (place + 1))
-  stopped e =
-      h.finds
-      ∙ fails_here (1 + place) next_sheet (sym (number_is (place + 1) p) ∙ e)
-      ∙ ap (λ (n : ℕ). Err (Misspelt n)) (omega arith)
+  module _ {judged : Result Row Refusal} (e : judged ≡ row_of (place + 1) (certified p)) where
+    number : number_answered judged ≡ number_of p
+    number = ap number_answered e ∙ number_is (place + 1) p
 
-  -- or it is entered
-  pub entered_next : (number_answered j ≡ 1 → ⊥) → {counts' : List ℕ} {rows' : List Row}
-      → counts' ≡ set counts (number_answered j) (get_or counts (number_answered j) 0 + 1) → rows' ≡ rows ++ rows_entered j
-      → Begun s then_left (place + 1) counts' rows'
-  entered_next other ec er = record {
-    left = behind;
-    finds =
+    -- its number is one that is counted, and there is room for its row
+    pub number_below : number_answered judged < 12
+    number_below = omega (arith, number, number_most p)
+
+    pub count_below : length P ≤ most_sheets → get_or counts (number_answered judged) 0 < most_sheets
+    count_below few =
+        omega (
+          arith,
+          ap (λ (l : List ℕ). get_or l (number_answered judged) 0) h.counted_so,
+          count_at (take place P) (number_answered judged) (omega (arith, number_below)),
+          counted_most (take place P) (number_answered judged),
+          before,
+          place_below,
+        )
+
+    -- it fails the first question
+    pub stopped : number_answered judged ≡ 1 → first_of (question15 P) ≡ Err (Misspelt (place + 1))
+    stopped one =
         h.finds
-        ∙ passes_here (1 + place) next_sheet (λ e. other (number_is (place + 1) p ∙ e))
-        ∙ ap (found (1 + place + 1)) behind
-        ∙ ap (λ (n : ℕ). found n (drop (place + 1) P)) (omega arith);
-    counted_so =
-        ec ∙ ap (λ (n : ℕ). set counts n (get_or counts n 0 + 1)) (number_is (place + 1) p)
-        ∙ ap (λ (l : List ℕ). set l (number_of p) (get_or l (number_of p) 0 + 1)) h.counted_so
-        ∙ counts_next (take place P) p ∙ ap counts_of (sym taken);
-    entered =
-        let k : 1 + length (take place P) ≡ place + 1 = omega (arith, before) in
-        er ∙ ap (λ (l : List Row). l ++ rows_entered j) h.entered
-        ∙ ap (λ (n : ℕ). rows_of 1 (take place P) ++ rows_entered (row_of n (certified p))) (sym k)
-        ∙ sym (rows_more 1 (take place P) p) ∙ ap (rows_of 1) (sym taken);
-  }
+        ∙ fails_here (1 + place) next_sheet (sym number ∙ one)
+        ∙ ap (λ (n : ℕ). Err (Misspelt n)) (omega arith)
+
+    -- or it is entered
+    pub entered_next : (number_answered judged ≡ 1 → ⊥) → {counts' : List ℕ} {rows' : List Row}
+        → counts' ≡ set counts (number_answered judged) (get_or counts (number_answered judged) 0 + 1) → rows' ≡ rows ++ rows_entered judged
+        → Begun s then_left (place + 1) counts' rows'
+    entered_next other ec er = record {
+      left = behind;
+      finds =
+          h.finds
+          ∙ passes_here (1 + place) next_sheet (λ one. other (number ∙ one))
+          ∙ ap (found (1 + place + 1)) behind
+          ∙ ap (λ (n : ℕ). found n (drop (place + 1) P)) (omega arith);
+      counted_so =
+          ec ∙ ap (λ (n : ℕ). set counts n (get_or counts n 0 + 1)) number
+          ∙ ap (λ (l : List ℕ). set l (number_of p) (get_or l (number_of p) 0 + 1)) h.counted_so
+          ∙ counts_next (take place P) p ∙ ap counts_of (sym taken);
+      entered =
+          let k : 1 + length (take place P) ≡ place + 1 = omega (arith, before) in
+          er ∙ ap (λ (j : Result Row Refusal). rows ++ rows_entered j) e
+          ∙ ap (λ (l : List Row). l ++ rows_entered (row_of (place + 1) (certified p))) h.entered
+          ∙ ap (λ (n : ℕ). rows_of 1 (take place P) ++ rows_entered (row_of n (certified p))) (sym k)
+          ∙ sym (rows_more 1 (take place P) p) ∙ ap (rows_of 1) (sym taken);
+    }

@@ -7,6 +7,7 @@ pub mod OutcomeLaws
 pub mod RowPlaces
 pub mod CountSums
 pub mod ReportLengths
+pub mod Reporting
 pub mod Spellings
 pub mod Cut
 pub mod Answers

@@ -26,10 +26,6 @@ none_counted =
     let none : newlines [] ≡ 0 = omega (arith, newlines-append [] []) in
     sym (ap (λ (n : ℕ). counting (min n newlines_enough) (eqb (unended []) 1)) none ∙ ap (λ (n : ℕ). counting 0 (eqb n 1)) unended_none)
 
-some_bytes : (l : List ℕ) → (length l ≡ 0 → ⊥) → 0 < length l
-some_bytes [] n = absurd (n refl)
-some_bytes (b ∷ l) n = omega arith
-
 -- A part more behind the bytes s.
 module _ (s part : List ℕ) where
   newlines_on : min (min (newlines s) newlines_enough + newlines part) newlines_enough ≡ min (newlines (s ++ part)) newlines_enough
@@ -44,7 +40,7 @@ module _ (s part : List ℕ) where
   unended_then =
       by_test (eqb (length part) 0) (λ b. cond b (eqb (unended s) 1) (eqb (unended part) 1) ≡ eqb (unended (s ++ part)) 1)
       (λ e. ap (λ (u : ℕ). eqb u 1) (sym (unended_on part refl (eqb-true (length part) 0 e))))
-      (λ e. ap (λ (u : ℕ). eqb u 1) (sym (unended-append s part (some_bytes part (eqb-false (length part) 0 e)))))
+      (λ e. ap (λ (u : ℕ). eqb u 1) (sym (unended-append s part (omega (arith, eqb-false (length part) 0 e)))))
 
   pub counted_behind : (c : LineCount) → c ≡ line_count s → counted_on c part ≡ line_count (s ++ part)
   unfolding line_count counted_on

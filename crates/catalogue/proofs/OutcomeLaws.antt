@@ -10,9 +10,8 @@ use Rattle.questions.specs.Asking.{first_of, first_in}
 use Rattle.questions.specs.Outcomes.{refused, written_if_met, fitted}
 use Rattle.questions.proofs.Laws.{met_when_all, refused_when_no, first_refuses, first_passes, if_unmet_refused, asked_last}
 use Rattle.catalogue.specs.declared.ReportRefusal.{ReportRefusal}
-use Rattle.catalogue.specs.declared.ReportRefusal.TheVariants.{SheetCount, Misspelt, Room}
+use Rattle.catalogue.specs.declared.ReportRefusal.TheVariants.{SheetCount, Room}
 use Rattle.catalogue.specs.Catalogues.{most_sheets, sheets_in, report_of}
-use Rattle.catalogue.specs.Refusals.{report_answer, report_laws}
 use Rattle.catalogue.specs.Outcome.{question14, question15, question12, outcome_on, report_outcome}
 use Rattle.catalogue.specs.Promises.{Countable}
 
@@ -43,7 +42,3 @@ module _ (ps : List (List ℕ)) (room : ℕ) where
 pub too_many_refused : (s : List ℕ) (room : ℕ) → most_sheets < length (sheets_in s) → report_outcome s room ≡ refused SheetCount
 unfolding report_outcome
 too_many_refused s room h = outcome_14 (sheets_in s) room (λ n. omega (arith, n.few, h))
-
--- a refusal has a number
-pub report_numbered : (r : ReportRefusal) → (report_answer r).refusal ≡ 0 → ⊥
-report_numbered r e = omega (arith, report_laws.numbered r)

@@ -1,6 +1,6 @@
 -- The report's text, its sums and its length.
 use Rattle.std.specs.List.{fold, sum_by}
-use Prim.Native.Nat.{ℕ, zero, suc, ◌+◌, ◌*◌, ◌≤◌, ◌<◌}
+use Prim.Native.Nat.{ℕ, zero, suc, ◌+◌, ◌*◌, ◌≤◌}
 use mathlib.Core.List.{List, [], ◌∷◌, ◌++◌, map}
 use mathlib.Core.Path.{◌≡◌, refl, sym, ap, ◌∙◌}
 use native.Mathlib.Omega.{arith}
@@ -8,7 +8,9 @@ use lib.ListN.{length, get_or}
 use Rattle.questions.specs.Outcomes.{Outcome, refused, written}
 use Rattle.lines.specs.Texts.{longest}
 use Rattle.lines.specs.Runs.{runs, rows_text}
-use Rattle.lines.proofs.Laws.{runs-one, rows_join}
+use Rattle.lines.specs.Decimal.{row_text}
+use Rattle.lines.specs.Splitting.{all_texts}
+use Rattle.lines.proofs.Laws.{runs-one, rows_join, rows_as_texts, buffer_as_told, refused_as_told, written_as_told}
 use Rattle.certificate.specs.declared.Refusal.{Refusal}
 use Rattle.certificate.specs.Keys.{certificate_fields}
 use Rattle.certificate.proofs.Laws.{shown_below}
@@ -78,3 +80,9 @@ entered_text ps {n} {counts} {rows} {area} {axial} en ec er ea ex =
     ∙ ap (λ (k : ℕ). report_text (summary_of (length ps) (counts_of ps) (total 1 (rows_from 1 ps)) k) (rows_of 1 ps)) x
     ∙ ap (λ (l : List ℕ). report_text l (rows_of 1 ps)) (summary_is ps)
     ∙ report_is ps
+
+-- the text that the code writes
+pub report_bytes : (numbers : List ℕ) (rows : List Row) → rows_text (runs 1 numbers) ++ all_texts (λ r. row_text (numbers_of r)) rows ≡ report_text numbers rows
+report_bytes numbers rows = ap (λ (t : List ℕ). rows_text (runs 1 numbers) ++ t) (rows_as_texts numbers_of rows)
+
+pub ruleset putting = (report_bytes, buffer_as_told, refused_as_told, written_as_told)

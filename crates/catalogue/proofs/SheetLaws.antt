@@ -6,11 +6,11 @@ use native.Mathlib.Omega.{arith}
 use borrow.Author.Tests.{ltb-true, ltb-false}
 use lib.Dec.{ltb}
 use lib.ListN.{length, take, drop, length-append, length-map, length-take, length-drop, take-append-drop}
-use lib.Seq.{take_all, take_at, drop-append_seam, drop-drop, drop-length}
+use lib.Seq.{take_all, take_at, drop-append_seam, drop-length}
 use Rattle.pair.proofs.Numbers.{by_test}
 use Rattle.lines.specs.Splitting.{split_lines, joined, newlines, unended}
 use Rattle.lines.specs.Runs.{runs}
-use Rattle.lines.proofs.Laws.{joined_none, joined_one, joined-append, front, front_taken, lines_behind_front, lines_of_front, newlines-append, unended-append}
+use Rattle.lines.proofs.Laws.{joined_none, joined_one, joined-append, front, front_next, front_taken, lines_behind_front, lines_of_front, newlines-append, unended-append}
 use Rattle.lines.proofs.Laws.{split_none, split_some, split_most, split_count, split_append, split_joined, runs_none, runs_next, runs_count}
 use Rattle.section.specs.Sheets.{sheet_lines}
 use Rattle.catalogue.specs.Catalogues.{sheets_in}
@@ -48,6 +48,8 @@ front_is s = refl
 pub sheet_some : (s : List ℕ) → 0 < length s → 0 < sheet_length s
 unfolding sheet_length
 sheet_some s h = first_some s h
+
+pub ruleset first_length = (joined_none, front_next, front_is, sheet_some)
 
 pub sheets_first : (s : List ℕ) → 0 < length s → sheets_in s ≡ take (sheet_length s) s ∷ sheets_in (drop (sheet_length s) s)
 unfolding sheet_length

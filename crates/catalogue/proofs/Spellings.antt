@@ -1,11 +1,11 @@
 -- The fifteenth question, both ways: all sheets meet the first question of a sheet, or one is the first that does not.
 use Rattle.std.specs.Prelude.{Ok, Err}
 use Prim.Native.Nat.{ℕ, zero, suc, ◌+◌, ◌-◌, ◌≤◌, ◌<◌}
-use mathlib.Core.List.{List, [], ◌∷◌, map}
+use mathlib.Core.List.{List, [], map}
 use mathlib.Core.Logic.{◌⊎◌, inl, inr, ◌↔◌}
 use mathlib.Core.Path.{◌≡◌, refl, sym, ap, ◌∙◌, subst}
 use native.Mathlib.Omega.{arith}
-use lib.ListN.{length, get_or, length-map}
+use lib.ListN.{length, get_or, get_or-map, length-map}
 use Rattle.questions.specs.Claims.{Claim, Holds}
 use Rattle.questions.specs.Asking.{first_of}
 use Rattle.questions.proofs.Laws.{All-when_met, met_when_all, no_when_refused, refused_when_no, All-asked, each_asked, no_among, no_asked}
@@ -48,19 +48,13 @@ module _ (p : List ℕ) where
     λ u h. number_other (number_of p) h ((fails_first p (longest certificate_fields)).1 (u.line, u.bad)),
   )
 
--- the claim on sheet i
-claim_at : (ps : List (List ℕ)) (i : ℕ) → get_or (map spelt ps) i (spelt []) ≡ spelt (get_or ps i [])
-claim_at [] i = refl
-claim_at (p ∷ ps) zero = refl
-claim_at (p ∷ ps) (suc i) = claim_at ps i
-
 -- Several sheets.
 module _ (ps : List (List ℕ)) where
   abbrev claims : List Claim
   claims = map spelt ps
 
   claimed : (i : ℕ) → Holds (get_or claims i (spelt [])) ↔ Spelt (get_or ps i [])
-  claimed i = let h = spelt_is (get_or ps i []) in (λ c. h.0 (subst Holds (claim_at ps i) c), λ s. subst Holds (sym (claim_at ps i)) (h.1 s))
+  claimed i = let h = spelt_is (get_or ps i []) in (λ c. h.0 (subst Holds (get_or-map spelt ps i []) c), λ s. subst Holds (sym (get_or-map spelt ps i [])) (h.1 s))
 
   -- sheet i stands at place i + 1
   pub at_index : (i : ℕ) → sheet_at ps (suc i) ≡ get_or ps i []
@@ -93,7 +87,7 @@ module _ (ps : List (List ℕ)) where
         record {
           within = (omega arith, omega (arith, m.inside, length-map ps spelt));
           before = λ k one below. (claimed (k - 1)).0 (m.before (k - 1) (omega arith));
-          here = subst Unspelt (sym (at_index i)) ((Unspelt-is (get_or ps i [])).0 (λ h. m.here (subst Holds (sym (claim_at ps i)) h)));
+          here = subst Unspelt (sym (at_index i)) ((Unspelt-is (get_or ps i [])).0 (λ h. m.here (subst Holds (sym (get_or-map spelt ps i [])) h)));
         },
         sym m.which ∙ ap Misspelt next,
       )
@@ -108,6 +102,6 @@ module _ (ps : List (List ℕ)) where
         at = i;
         inside = omega (arith, f.within.0, f.within.1, length-map ps spelt);
         before = λ k below. (claimed k).1 (subst Spelt (at_index k) (f.before (suc k) (omega arith) (omega (arith, below))));
-        here = λ h. (Unspelt-is (get_or ps i [])).1 f.here (subst Holds (claim_at ps i) h);
+        here = λ h. (Unspelt-is (get_or ps i [])).1 f.here (subst Holds (get_or-map spelt ps i []) h);
         which = ap Misspelt next;
       }))

@@ -14,16 +14,6 @@ pub struct LineCount {
     pub unended: bool,
 }
 
-// Of no bytes.
-pub fn no_lines() -> LineCount
-    ensures { result ≡ line_count [] }
-{
-    LineCount {
-        newlines: 0,
-        unended: false,
-    }
-}
-
 // n newlines and so many more.
 fn newlines_with(n: usize, more: usize) -> usize
     ensures { result ≡ min (n + more) newlines_enough }
@@ -31,25 +21,40 @@ fn newlines_with(n: usize, more: usize) -> usize
     n.saturating_add(more).min(MOST_LINES + 1)
 }
 
-// The lines of the bytes counted so far and of this part behind them (`counted_behind` in
-// proofs/LineCounts).
-pub fn count_on(counted: LineCount, part: &[u8]) -> LineCount
-    ensures { result ≡ counted_on counted part.now }
-{
-    LineCount {
-        newlines: newlines_with(counted.newlines, splitting::newline_count(part)),
-        unended: if part.is_empty() {
-            counted.unended
-        } else {
-            splitting::is_unended(part)
-        },
+impl LineCount {
+    // Of no bytes.
+    #[tactic(auto, using(crate::proofs::LineCounts::none_counted))]
+    pub fn none() -> LineCount
+        ensures { result ≡ line_count [] }
+    {
+        LineCount {
+            newlines: 0,
+            unended: false,
+        }
     }
-}
 
-// The sheets that these lines make, up to one more than a catalogue may have.
-pub fn sheet_count(lines: LineCount) -> usize
-    ensures { result ≡ sheets_counted lines }
-{
-    let n = newlines_with(lines.newlines, 0) + usize::from(lines.unended);
-    n.div_ceil(SHEET_LINES)
+    // The lines of the bytes counted so far and of this part behind them (`counted_behind` in
+    // proofs/LineCounts).
+    #[tactic(auto, using(crate::proofs::LineCounts::counted_empty, crate::proofs::LineCounts::counted_some))]
+    pub fn count_on(self, part: &[u8]) -> LineCount
+        ensures { result ≡ counted_on self part.now }
+    {
+        LineCount {
+            newlines: newlines_with(self.newlines, splitting::newline_count(part)),
+            unended: if part.is_empty() {
+                self.unended
+            } else {
+                splitting::is_unended(part)
+            },
+        }
+    }
+
+    // The sheets that these lines make, up to one more than a catalogue may have.
+    #[tactic(auto, using(crate::proofs::LineCounts::byte_is), unfolding(crate::specs::Forms::sheets_counted))]
+    pub fn sheet_count(self) -> usize
+        ensures { result ≡ sheets_counted self }
+    {
+        let n = newlines_with(self.newlines, 0) + usize::from(self.unended);
+        n.div_ceil(SHEET_LINES)
+    }
 }

@@ -19,6 +19,7 @@ use section::SHEET_LINES;
 pub type Rows = ArrayVec<Row, MOST_SHEETS>;
 
 // How many bytes the first sheet has.
+#[tactic(auto, using(crate::proofs::SheetLaws::first_length))]
 fn sheet_length(s: &[u8]) -> usize
     ensures value { result ≡ sheet_length s.now }
     ensures upper_bound { result ≤ length s.now }
@@ -54,41 +55,45 @@ impl<'a> Iterator for Sheets<'a> {
     }
 }
 
-// Counts a sheet under the number that is answered, and enters the row of an accepted one.
-fn enter(counts: &mut [u64; ANSWERS], rows: &mut Rows, judged: Result<Row, Refusal>)
-    requires number { number_answered judged < length numbers_answered }
-    requires count_below { get_or counts.old (number_answered judged) 0 < most_sheets }
-    requires room { array_vec_len rows.old < most_sheets }
-    ensures counts { counts.new ≡ set counts.old (number_answered judged) (get_or counts.old (number_answered judged) 0 + 1) }
-    ensures rows { rows.new.items ≡ rows.old.items ++ rows_entered judged }
-{
-    counts[judging::number(judged) as usize] += 1;
-    if let Ok(row) = judged {
-        rows.push(row);
-    }
+// What sheets give: how many are answered with each number, and the rows of the accepted ones.
+#[derive(Debug, Default, PartialEq, Eq, Drop)]
+pub struct Entries {
+    pub counts: [u64; ANSWERS],
+    pub rows: Rows,
 }
 
-// Question 15: judges the sheets of s in order, up to the first that fails the first question.
-pub fn enter_sheets(
-    s: &[u8],
-    counts: &mut [u64; ANSWERS],
-    rows: &mut Rows,
-) -> Result<(), ReportRefusal>
-    requires few_sheets { length (sheets_in s.now) ≤ most_sheets }
-    requires counts_value { counts.old ≡ replicate (length numbers_answered) 0 }
-    requires rows_value { rows.old.items ≡ [] }
-    ensures finds { result ≡ first_of (question15 (sheets_in s.now)) }
-    ensures counts { OnOk result (counts.new ≡ counts_of (sheets_in s.now)) }
-    ensures rows { OnOk result (rows.new.items ≡ rows_of 1 (sheets_in s.now)) }
-{
-    let mut place = 0;
-    for sheet in (Sheets { rest: s }) {
-        place += 1;
-        let judged = judging::judge(sheet, place);
-        if judging::number(judged) == 1 {
-            return Err(ReportRefusal::Misspelt(place));
+impl Entries {
+    // Counts a sheet under the number that is answered, and enters the row of an accepted one.
+    fn enter(&mut self, judged: Result<Row, Refusal>)
+        requires number { number_answered judged < length numbers_answered }
+        requires count_below { get_or self.old.counts (number_answered judged) 0 < most_sheets }
+        requires room { array_vec_len self.old.rows < most_sheets }
+        ensures counts { let k = number_answered judged in self.new.counts ≡ set self.old.counts k (get_or self.old.counts k 0 + 1) }
+        ensures rows { self.new.rows.items ≡ self.old.rows.items ++ rows_entered judged }
+    {
+        self.counts[judging::number(judged) as usize] += 1;
+        if let Ok(row) = judged {
+            self.rows.push(row);
         }
-        enter(counts, rows, judged);
     }
-    Ok(())
+
+    // Question 15: judges the sheets of s in order, up to the first that fails the first question.
+    pub fn enter_sheets(&mut self, s: &[u8]) -> Result<(), ReportRefusal>
+        requires few_sheets { length (sheets_in s.now) ≤ most_sheets }
+        requires no_counts { self.old.counts ≡ replicate (length numbers_answered) 0 }
+        requires no_rows { self.old.rows.items ≡ [] }
+        ensures finds { result ≡ first_of (question15 (sheets_in s.now)) }
+        ensures counts { OnOk result (self.new.counts ≡ counts_of (sheets_in s.now)) }
+        ensures rows { OnOk result (self.new.rows.items ≡ rows_of 1 (sheets_in s.now)) }
+    {
+        for (i, sheet) in (Sheets { rest: s }).enumerate() {
+            let place = i as u64 + 1;
+            let judged = judging::judge(sheet, place);
+            if judging::is_misspelt(judged) {
+                return Err(ReportRefusal::Misspelt(place));
+            }
+            self.enter(judged);
+        }
+        Ok(())
+    }
 }

@@ -1,5 +1,5 @@
 // What one sheet of a catalogue gives.
-ghost use Rattle.std.specs.Prelude.{◌≡◌};
+ghost use Rattle.std.specs.Prelude.{◌≡◌, ◌==◌};
 ghost use Rattle.catalogue.specs.Catalogues.{certified};
 ghost use Rattle.catalogue.specs.Forms.{row_of, number_answered};
 
@@ -15,6 +15,7 @@ pub struct Row {
 }
 
 // The line of the sheet at this place, or why writing its certificate refuses it, room given.
+#[tactic(auto, using(crate::proofs::EntryLaws::judging))]
 pub fn judge(sheet: &[u8], place: u64) -> Result<Row, Refusal>
     ensures { result ≡ row_of place (certified sheet.now) }
 {
@@ -25,6 +26,13 @@ pub fn judge(sheet: &[u8], place: u64) -> Result<Row, Refusal>
         area: figures.area,
         axial: figures.axial,
     })
+}
+
+// Whether the sheet fails the first question.
+pub fn is_misspelt(judged: Result<Row, Refusal>) -> bool
+    ensures { result ≡ number_answered judged == 1 }
+{
+    matches!(judged, Err(Refusal::Spelling(_)))
 }
 
 // The number that is answered: 0 where the sheet is accepted.

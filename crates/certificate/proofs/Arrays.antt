@@ -1,13 +1,13 @@
--- The arrays of the code: the keys, and a number put in behind those before it.
-use Prim.Native.Nat.{ℕ, zero, suc, ◌+◌, ◌<◌}
-use mathlib.Core.List.{List, [], ◌∷◌, ◌++◌, map, append_assoc}
-use mathlib.Core.Path.{◌≡◌, refl, sym, ap, ◌∙◌}
-use native.Mathlib.Numerals.{add-one}
+-- The arrays of the code: the keys, and those made of another element by element.
+use Prim.Native.Nat.{ℕ, ◌<◌}
+use mathlib.Core.List.{List, [], ◌∷◌, map}
 use native.Mathlib.Omega.{arith}
-use lib.IntN.{ℤ, pos}
-use lib.Seq.{take-suc, take-suc-set}
-use lib.ListN.{length, get_or, take, set}
-use Rattle.std.proofs.lemmas.List.{take-map}
+use denote.Param.Members.{Mut, Called}
+use mathlib.Core.Path.{◌≡◌, refl, sym, ap, ◌∙◌, subst}
+use lib.ListN.{length, length-map, get_or, get_or-map, take}
+use Rattle.std.proofs.lemmas.List.{take-map, ext_get_or}
+use Rattle.std.specs.Array.{list_steps, IsMapOf}
+use Rattle.std.specs.Iterator.{Yields, CallableAtEachTurn}
 use Rattle.lines.specs.declared.keys.Key.{Key}
 use Rattle.lines.specs.Fields.{field}
 use Rattle.section.specs.Sheets.{sheet_lines}
@@ -22,21 +22,21 @@ pub sheet_field_count : length sheet_fields ≡ sheet_lines
 unfolding sheet_fields
 sheet_field_count = refl
 
--- a value more, behind those that are put in
-pub value_put : (vs us ws : List ℤ) (k i : ℕ) (v : ℤ) → take k vs ≡ us ++ take i ws → k < length vs → i < length ws → v ≡ get_or ws i (pos 0)
-    → take (k + 1) (set vs k v) ≡ us ++ take (i + 1) ws
-value_put vs us ws k i v h room here e =
-    ap (λ (n : ℕ). take n (set vs k v)) (add-one k) ∙ take-suc-set vs k v room
-    ∙ ap (λ (l : List ℤ). l ++ (v ∷ [])) h ∙ append_assoc us (take i ws) (v ∷ [])
-    ∙ ap (λ (w : ℤ). us ++ (take i ws ++ (w ∷ []))) e
-    ∙ ap (λ (l : List ℤ). us ++ l) (sym (take-suc ws i (pos 0) here) ∙ ap (λ (n : ℕ). take n ws) (sym (add-one i)))
+-- behind the items xs of a list comes the one at that place
+given : {A : Type 0} (s xs t u : List A) (x e : A) → Yields list_steps s xs t → t ≡ x ∷ u → (length xs < length s) × (get_or s (length xs) e ≡ x)
+given s [] t u x e y h = rw (y ∙ h) (omega arith, refl)
+given s (z ∷ xs) t u x e y h = let more = given y.0 xs t u x e y.2 h in rw y.1 (omega (arith, more.0), more.1)
 
--- a number more, in an array of which those up to place i are the first of ss
-pub number_put : (ns ss : List ℕ) (i x : ℕ) → i < length ns → x ≡ get_or ss i 0 → ((j : ℕ) → j < i → get_or ns j 0 ≡ get_or ss j 0)
-    → (j : ℕ) → j < i + 1 → get_or (set ns i x) j 0 ≡ get_or ss j 0
-number_put [] ss i x h e f j k = absurd (omega arith)
-number_put (n ∷ ns) ss zero x h e f zero k = e
-number_put (n ∷ ns) ss zero x h e f (suc j) k = absurd (omega arith)
-number_put (n ∷ ns) ss (suc i) x h e f zero k = f 0 (omega arith)
-number_put (n ∷ ns) [] (suc i) x h e f (suc j) k = number_put ns [] i x (omega arith) e (λ m g. f (suc m) (omega arith)) j (omega arith)
-number_put (n ∷ ns) (s ∷ ss) (suc i) x h e f (suc j) k = number_put ns ss i x (omega arith) e (λ m g. f (suc m) (omega arith)) j (omega arith)
+-- so a call may be made of each in turn, where it may be of the element at each place
+pub callable : {A P : Type 0} {R : P → A → P → Type 0} {Q : P → A → Type 0} (s : List A) (e : A) {p : P} → ((q : P) (i : ℕ) → i < length s → Q q (get_or s i e))
+    → CallableAtEachTurn list_steps R Q s p
+callable {Q = Q} s e may = record {
+  at = λ xs t q x u y f n. let here = given s xs t u x e y n in subst (Q q) here.1 (may q (length xs) here.0);
+}
+
+-- an array that is made of another, each element by a call that gives h of it
+pub mapped : {A B F : Type 0} {g : Mut F (A × Unit {0}) B} {f : F} {xs : List A} {ys : List B} {n : ℕ} (h : A → B) (e : A) → IsMapOf g f xs ys n → length xs ≡ n
+    → ((p q : F) (x : A) (y : B) → Called g p (x, tt) y q → y ≡ h x) → ys ≡ map h xs
+mapped {xs = xs} {ys = ys} h e made n each =
+    ext_get_or (h e) ys (map h xs) (omega (arith, made.long, n, length-map xs h))
+    (λ k inside. let c = made.at k e (h e) (omega (arith, made.long, inside)) in each c.0 c.1 _ _ c.2 ∙ sym (get_or-map h xs k e))

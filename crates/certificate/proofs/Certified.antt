@@ -17,7 +17,7 @@ use Rattle.section.specs.Sound.{Sound}
 use Rattle.section.specs.Sheets.{sheet_lines}
 use Rattle.section.specs.Figures.{Printed, own_figures}
 use Rattle.section.specs.Forms.{figures_of}
-use Rattle.section.proofs.Laws.{figures_have_ten_digits, area_of_form, axial_of_form}
+use Rattle.section.proofs.Laws.{figures_have_ten_digits}
 use Rattle.lines.specs.Texts.{longest, FirstBad}
 use Rattle.lines.specs.Reading.{Reading, values, bad_line}
 use Rattle.lines.specs.Splitting.{split_lines, newlines, unended}
@@ -66,9 +66,7 @@ module _ (q : Sheet) (room : ℕ) where
         h.1 ∙ ap figures_of (sym (figures_read_lem q ((accepted_is_met q (own_figures q)).0 h.0).0))
 
     pub shown_as_judged : (f.area ≡ (figures_in (certificate_of q)).area) × (f.axial ≡ (figures_in (certificate_of q)).axial)
-    shown_as_judged =
-        let p = figures_in (certificate_of q) in
-        (ap (λ (x : Figures). x.area) shown ∙ area_of_form p, ap (λ (x : Figures). x.axial) shown ∙ axial_of_form p)
+    shown_as_judged = (ap (λ (x : Figures). x.area) shown, ap (λ (x : Figures). x.axial) shown)
 
 -- no bytes are both right lines and bad ones
 not_both : {r : Reading} {vs : List ℤ} {l : ℕ} → r ≡ values vs → r ≡ bad_line l → ⊥

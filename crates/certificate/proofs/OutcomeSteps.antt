@@ -1,11 +1,10 @@
 -- The steps of the code that writes and checks, each with what it gives.
 use Rattle.std.specs.Prelude.{Result, Ok, Err}
-use Prim.Native.Nat.{ℕ, ◌+◌, ◌≤◌}
+use Prim.Native.Nat.{ℕ, ◌+◌, ◌^◌, ◌≤◌, ◌<◌}
 use mathlib.Core.List.{List, [], ◌∷◌, ◌++◌}
 use mathlib.Core.Path.{◌≡◌, sym, ap, ◌∙◌, subst}
-use native.Mathlib.Omega.{arith}
-use lib.IntN.{ℤ}
-use lib.ListN.{length, drop}
+use lib.IntN.{ℤ, pos, nat_abs}
+use lib.ListN.{length, get_or, drop}
 use Rattle.section.specs.declared.Sheet.{Sheet}
 use Rattle.questions.specs.Claims.{◌is◌, pairwise}
 use Rattle.section.specs.Figures.{Printed, own_figures}
@@ -13,21 +12,21 @@ use Rattle.section.specs.Sheets.{sheet_lines}
 use Rattle.lines.specs.Texts.{lines_text, longest}
 use Rattle.lines.specs.Reading.{Reading, values, bad_line, read_lines}
 use Rattle.certificate.specs.Keys.{sheet_fields, certificate_fields}
-use Rattle.questions.specs.declared.Answer.{Answer}
 use Rattle.certificate.specs.declared.Refusal.{Refusal}
 use Rattle.certificate.specs.declared.Refusal.TheVariants.{Spelling, Room, Figure}
-use Rattle.questions.specs.Answers.{answer}
-use Rattle.certificate.specs.Refusals.{refusal_answer}
 use Rattle.questions.specs.Asking.{asked_from, first_of, first_in}
 use Rattle.certificate.specs.Questions.{questions, verdict}
 use Rattle.certificate.specs.Certificates.{sheet_values, figure_values, certificate_values, certificate_of, sheet_shown, read_sheet, sheet_in, read_certificate, certificate_in, agreeing}
 use Rattle.certificate.specs.Outcome.{question12, question13, writing, checking, outcome_of, outcome_read, outcome, checked_read, checked}
-use Rattle.questions.specs.Outcomes.{refused, written_if_met, fitting, fitted, length_of, answer_of}
+use Rattle.questions.specs.Outcomes.{refused, written_if_met, fitting, fitted, length_of}
 use Rattle.certificate.specs.Outcome.{check_outcome}
-use Rattle.lines.proofs.Laws.{by_reading}
-use Rattle.questions.proofs.Laws.{in_turn, then_nothing}
+use Rattle.lines.proofs.Laws.{by_reading, buffer_as_told, refused_as_told, written_as_told, reads_values, spelt_words, spelt_count}
+use Rattle.certificate.proofs.Arrays.{sheet_keys, sheet_field_count}
+use Rattle.questions.proofs.Laws.{buffer_refused, in_turn, then_nothing}
 use Rattle.certificate.proofs.Theorems.{judged_refused, judged-accepted, accepted_is_met}
 use Rattle.certificate.proofs.Shown.{length_most}
+use Rattle.certificate.proofs.Lengths.{longest_certificate}
+use Rattle.certificate.proofs.Steps.{refused_sheet, accepted_sheet, figures_worked}
 
 -- the first question, of a sheet and of a certificate
 module _ (s : List ℕ) where
@@ -58,9 +57,6 @@ module _ (s : List ℕ) where
     pub right_sheet : (vs : List ℤ) → read_lines sheet_fields s ≡ values vs → outcome s room ≡ outcome_of (sheet_shown vs) room
     right_sheet vs e = right_outcome (sheet_shown vs) (right_read vs e)
 
-not_both : {A E : Type 0} {x : A} {e : E} → ◌≡◌ {A = Result A E} (Ok x) (Err e) → ⊥
-not_both h = let z : ◌≡◌ {A = ℕ} 0 1 = cc in omega arith
-
 one_value : {A E : Type 0} {x y : A} → ◌≡◌ {A = Result A E} (Ok x) (Ok y) → x ≡ y
 one_value h = cc
 
@@ -84,6 +80,9 @@ module _ (c : List ℕ) where
   unfolding certificate_in read_certificate
   certificate_bad l e = ap read_certificate e
 
+  pub certificate_words : (vs : List ℤ) → read_lines certificate_fields c ≡ values vs → (i : ℕ) → nat_abs (get_or vs i (pos 0)) < 2 ^ 64
+  certificate_words vs e = spelt_words certificate_fields vs ((reads_values certificate_fields c vs).0 e).spelt
+
   pub certificate_right : (vs : List ℤ) → read_lines certificate_fields c ≡ values vs → certificate_in c ≡ Ok vs
   unfolding certificate_in read_certificate
   certificate_right vs e = ap read_certificate e
@@ -93,12 +92,12 @@ module _ (c : List ℕ) where
   values_read vs e =
       by_reading certificate_fields c
       (λ us h. in_lines vs (h ∙ ap values (one_value (sym (certificate_right us h) ∙ e))))
-      (λ l h. absurd (not_both (sym e ∙ certificate_bad l h)))
+      (λ l h. let both : Ok vs ≡ Err (Spelling l) = sym e ∙ certificate_bad l h in cc)
 
   pub none_read : (r : Refusal) → certificate_in c ≡ Err r → checked c ≡ Err r
   none_read r e =
       by_reading certificate_fields c
-      (λ us h. absurd (not_both (sym (certificate_right us h) ∙ e)))
+      (λ us h. let both : Ok us ≡ Err r = sym (certificate_right us h) ∙ e in cc)
       (λ l h. bad_certificate l h ∙ ap Err (one_refusal (sym (certificate_bad l h) ∙ e)))
 
   -- how many bytes a check passes, or why it refuses
@@ -147,12 +146,17 @@ module _ (q : Sheet) where
       let h = questions-met e in
       rw (in_turn (questions q) ([] ∷ question13 vs q ∷ []), h.0, then_nothing (first_of (question13 vs q)), h.1)
 
--- what is answered to a check
-module _ (c : List ℕ) (a : Answer) where
-  pub answers_unlike : (r : Refusal) → checked c ≡ Err r → a ≡ refusal_answer r → a ≡ answer_of refusal_answer (check_outcome c)
-  unfolding check_outcome written_if_met
-  answers_unlike r e h = h ∙ sym (ap (λ (f : Result Unit Refusal). answer_of refusal_answer (written_if_met f c)) e)
+-- what the code's steps tell, function by function
+pub ruleset reading_certificates = (certificate_bad, certificate_right, certificate_words)
 
-  pub answers_passed : checked c ≡ Ok tt → a ≡ answer 0 0 (length c) → a ≡ answer_of refusal_answer (check_outcome c)
-  unfolding check_outcome written_if_met
-  answers_passed e h = h ∙ sym (ap (λ (f : Result Unit Refusal). answer_of refusal_answer (written_if_met f c)) e)
+pub ruleset reading_sheets = (bad_read, right_read, reads_values, spelt_words, spelt_count, sheet_keys, sheet_field_count)
+
+pub ruleset putting = (longest_certificate, buffer_as_told, refused_as_told, written_as_told)
+
+pub ruleset working = (figures_worked, refused_sheet, accepted_sheet, refused_by_verdict, room_asked, accepted-length, buffer_refused)
+
+pub ruleset certifying = (bad_outcome, right_outcome, buffer_refused)
+
+pub ruleset comparing = (figures_worked, refused_sheet, refused_checking)
+
+pub ruleset verifying = (values_read, none_read, passed_length, unlike_length)

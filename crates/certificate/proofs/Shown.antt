@@ -1,11 +1,13 @@
 -- A sheet, its figures, and the lines that show them: each is had back from the other.
-use Prim.Native.Nat.{ℕ, zero, suc, ◌≤◌, ◌<◌}
-use mathlib.Core.List.{List, [], ◌∷◌, ◌++◌, map}
+use Prim.Native.Nat.{ℕ, ◌≤◌}
+use mathlib.Core.List.{List, ◌++◌, map}
 use mathlib.Core.Logic.{⊎_elim}
 use mathlib.Core.Path.{◌≡◌, refl, sym, ap, ◌∙◌, subst}
 use native.Mathlib.Omega.{arith}
 use lib.IntN.{ℤ, pos, nat_abs}
 use lib.ListN.{length, get_or, take, drop, take-append-drop, length-map}
+use Rattle.std.proofs.lemmas.List.{get_or-take, take-map}
+use Rattle.std.proofs.lemmas.Simd.{map-map}
 use Rattle.section.specs.declared.Sheet.{Sheet}
 use Rattle.section.specs.Sheets.{sheet_lines, sheet_of, values_of}
 use Rattle.section.specs.Sound.{Question2, Sound}
@@ -17,16 +19,11 @@ use Rattle.certificate.specs.Keys.{sheet_fields, figure_fields, certificate_fiel
 use Rattle.certificate.specs.Certificates.{sheet_values, figure_values, certificate_values, certificate_of, sheet_shown, figures_shown}
 
 -- the first lines alone show the same sheet
-front_at : (vs : List ℤ) (k i : ℕ) → i < k → get_or (map nat_abs (take k vs)) i 0 ≡ get_or (map nat_abs vs) i 0
-front_at [] zero i h = refl
-front_at [] (suc k) i h = refl
-front_at (v ∷ vs) zero i h = absurd (omega arith)
-front_at (v ∷ vs) (suc k) zero h = refl
-front_at (v ∷ vs) (suc k) (suc i) h = front_at vs k i (omega arith)
-
 pub front_shown : (vs : List ℤ) → sheet_shown (take sheet_lines vs) ≡ sheet_shown vs
 unfolding sheet_shown
-front_shown vs = same_values (map nat_abs (take sheet_lines vs)) (map nat_abs vs) (front_at vs sheet_lines)
+front_shown vs =
+    same_values (map nat_abs (take sheet_lines vs)) (map nat_abs vs)
+    (λ i h. ap (λ (l : List ℕ). get_or l i 0) (sym (take-map nat_abs sheet_lines vs)) ∙ get_or-take sheet_lines (map nat_abs vs) i 0 h)
 
 -- the lines of a sheet, whatever comes behind, show that sheet
 module _ (q : Sheet) where
@@ -55,14 +52,10 @@ unfolding figure_values
 figure_count p = refl
 
 -- and a sheet's lines, as they can be spelt, are those of the sheet that they show
-numbers_back : (vs : List ℤ) → map pos (map nat_abs vs) ≡ map (λ v. pos (nat_abs v)) vs
-numbers_back [] = refl
-numbers_back (v ∷ vs) = ap (λ (l : List ℤ). pos (nat_abs v) ∷ l) (numbers_back vs)
-
 pub values_back : (vs : List ℤ) → length vs ≡ sheet_lines → SpeltIn sheet_fields vs → sheet_values (sheet_shown vs) ≡ vs
 unfolding sheet_values sheet_shown sheet_fields
 values_back vs n h =
-    ap (map pos) (values_of_sheet (map nat_abs vs) (omega (arith, n, length-map vs nat_abs))) ∙ numbers_back vs ∙ numbers_above sheet_fields vs refl h
+    ap (map pos) (values_of_sheet (map nat_abs vs) (omega (arith, n, length-map vs nat_abs))) ∙ map-map pos nat_abs vs ∙ numbers_above sheet_fields vs refl h
 
 -- so the lines of a certificate are those of its sheet, and then the six behind them
 pub split_at_sheet : (vs : List ℤ) → SpeltIn certificate_fields vs → vs ≡ sheet_values (sheet_shown vs) ++ drop sheet_lines vs

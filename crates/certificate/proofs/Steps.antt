@@ -64,6 +64,9 @@ module _ (q : Sheet) where
   pub sound_when_met : first_refusal q ≡ Ok tt → Sound q
   sound_when_met e = (met_is_sound q).0 e
 
+  pub sound_sheet : first_refusal q ≡ Ok tt → ∥ Sound q ∥₁
+  sound_sheet e = ∣ sound_when_met e ∣₁
+
   -- the eleventh
   asked11 : All (question11 q) ↔ Question11 (fineness q) q
   unfolding question11
@@ -74,16 +77,17 @@ module _ (q : Sheet) where
   by_allowed true e = met_when_all (question11 q) (asked11.1 ((allowed_is_met (fineness q) q).0 e))
   by_allowed false e = refused_when_no (question11 q) Allowance (inl (λ a. (not_allowed_is_unmet (fineness q) q).0 e (asked11.0 (a, tt)), refl))
 
-  -- as the code asks it, at the fineness n
-  module _ {n : ℕ} (own : n ≡ fineness q) {b : Bool} (told : b ≡ allowed n q) where
-    eleventh : first_of (question11 q) ≡ asked b Allowance
-    eleventh = by_allowed b (sym (told ∙ ap (λ (m : ℕ). allowed m q) own))
+  -- as the code asks it of the sheet p, worked at the fineness n
+  module _ {n m : ℕ} {p : Sheet} {b : Bool} {a : Result Unit Refusal}
+      (worked : n ≡ m) (own : m ≡ fineness q) (same : p ≡ q) (told : b ≡ allowed n p) (put : a ≡ asked b Allowance) where
+    eleventh : first_of (question11 q) ≡ a
+    eleventh = by_allowed b (sym (told ∙ rw (worked, own, same))) ∙ sym put
 
-    pub eleventh_unmet : {r : Refusal} (p : Printed) → asked b Allowance ≡ Err r → verdict_of (judged (first_of (question11 q)) p) ≡ Err r
-    eleventh_unmet p e = rw (eleventh ∙ e)
+    pub eleventh_unmet : {r : Refusal} → a ≡ Err r → verdict_of (judged (first_of (question11 q)) (own_figures q)) ≡ Err r
+    eleventh_unmet e = rw (eleventh ∙ e)
 
-    pub eleventh_met : {f : Figures} → asked b Allowance ≡ Ok tt → f ≡ figures_of (figures n q) → verdict_of (judged (first_of (question11 q)) (own_figures q)) ≡ Ok f
-    eleventh_met e k = rw (eleventh ∙ e) (ap Ok (sym (k ∙ ap (λ (m : ℕ). figures_of (figures m q)) own)))
+    pub eleventh_met : {f : Figures} → a ≡ Ok tt → f ≡ figures_of (figures n p) → Ok f ≡ verdict_of (judged (first_of (question11 q)) (own_figures q))
+    eleventh_met e k = sym (rw (eleventh ∙ e) (ap Ok (sym (k ∙ rw (worked, own, same)))))
 
   verdict_then : verdict q ≡ judged (first_refusal q then first_of (question11 q)) (own_figures q)
   unfolding verdict questions first_refusal first_in
@@ -100,7 +104,7 @@ module _ (q : Sheet) where
 -- what an answer of the code before goes on to
 pub ruleset part_by_part = (in_range, unmet_second, unmet_lengths, lips_left)
 
-pub ruleset before_the_eleventh = (unmet_before, sound_when_met, eleventh_left)
+pub ruleset before_the_eleventh = (unmet_before, sound_sheet, eleventh_left)
 
 -- what the code's verdict says: the refusal, or the figures
 verdict_refused : (j : Result Printed Refusal) {r : Refusal} → verdict_of j ≡ Err r → j ≡ Err r

@@ -1,6 +1,6 @@
 // Writing and checking certificates. (docs/WORKING.md, 14.)
-ghost use Rattle.std.specs.Prelude.{◌≤◌, ◌≡◌, length};
-ghost use Rattle.questions.specs.Claims.{◌is◌, test};
+ghost use Rattle.std.specs.Prelude.{◌≤◌, ◌<◌, ◌≡◌, length, not, IfSome};
+ghost use Rattle.std.specs.List.{position_from, zip};
 ghost use Rattle.questions.specs.Outcomes.{answer_of, answer_in, length_of, length_in, buffer_in};
 ghost use Rattle.section.specs.Sheets.{sheet_of};
 ghost use Rattle.lines.specs.Reading.{values};
@@ -15,6 +15,7 @@ use crate::{CERTIFICATE_LINES, LONGEST_CERTIFICATE, Refusal, reading, verdicts, 
 use lines::texts::{TooShort, write_fitted};
 use questions::Answer;
 use questions::answers::answered;
+use questions::asking::refused_at;
 use section::{SHEET_LINES, Sheet};
 
 impl From<TooShort> for Refusal {
@@ -26,6 +27,7 @@ impl From<TooShort> for Refusal {
 }
 
 // Question 12: the certificate is written if it fits the buffer.
+#[tactic(auto, using(crate::proofs::OutcomeSteps::putting))]
 fn put(values: [i128; CERTIFICATE_LINES], buffer: &mut [u8]) -> Result<usize, Refusal>
     requires { length (certificate_text values) ≤ longest certificate_fields }
     ensures value { result ≡ length_in (fitted_text values) buffer.old }
@@ -36,7 +38,8 @@ fn put(values: [i128; CERTIFICATE_LINES], buffer: &mut [u8]) -> Result<usize, Re
 }
 
 // The length of a sheet's certificate, written into the buffer, or the refusal.
-fn certify(q: Sheet, buffer: &mut [u8]) -> Result<usize, Refusal>
+#[tactic(auto, using(crate::proofs::OutcomeSteps::working), unfolding(crate::specs::Certificates::certificate_values))]
+fn certify_sheet(q: Sheet, buffer: &mut [u8]) -> Result<usize, Refusal>
     ensures value { result ≡ length_in (outcome_of q) buffer.old }
     ensures buffer_after { buffer.new ≡ buffer_in (outcome_of q) buffer.old }
 {
@@ -45,11 +48,12 @@ fn certify(q: Sheet, buffer: &mut [u8]) -> Result<usize, Refusal>
 }
 
 // The same of a sheet's bytes.
-fn certify_read(sheet: &[u8], buffer: &mut [u8]) -> Result<usize, Refusal>
+#[tactic(auto, using(crate::proofs::OutcomeSteps::certifying))]
+pub fn certify(sheet: &[u8], buffer: &mut [u8]) -> Result<usize, Refusal>
     ensures value { result ≡ length_in (outcome sheet.now) buffer.old }
     ensures buffer_after { buffer.new ≡ buffer_in (outcome sheet.now) buffer.old }
 {
-    certify(reading::read_sheet(sheet)?, buffer)
+    certify_sheet(reading::read_sheet(sheet)?, buffer)
 }
 
 // The certificate of a sheet's numbers, into the buffer.
@@ -57,7 +61,7 @@ pub fn write_sheet(q: Sheet, buffer: &mut [u8]) -> Answer
     ensures value { result ≡ answer_in refusal_answer (outcome_of q) buffer.old }
     ensures buffer_after { buffer.new ≡ buffer_in (outcome_of q) buffer.old }
 {
-    answered(certify(q, buffer))
+    answered(certify_sheet(q, buffer))
 }
 
 // The certificate of a sheet's plain numbers, in the order of the lines, into the buffer.
@@ -73,14 +77,15 @@ pub fn write(sheet: &[u8], buffer: &mut [u8]) -> Answer
     ensures value { result ≡ answer_in refusal_answer (outcome sheet.now) buffer.old }
     ensures buffer_after { buffer.new ≡ buffer_in (outcome sheet.now) buffer.old }
 {
-    answered(certify_read(sheet, buffer))
+    answered(certify(sheet, buffer))
 }
 
-// Whether two integers are the same.
-fn same(x: i128, y: i128) -> bool
-    ensures { result ≡ test (x is y) }
+// The place of the first element that differs, counted from 0.
+fn first_difference<T: PartialEq>(a: &[T], b: &[T]) -> Option<usize>
+    ensures value { result ≡ position_from (λ p. not (T.eq p.0 p.1)) 0 (zip a.now b.now) }
+    ensures within { IfSome result (λ i. i < length a.now) }
 {
-    x == y
+    a.iter().zip(b).position(|(x, y)| x != y)
 }
 
 // Question 13: the first of the lines behind the sheet's that differs.
@@ -90,15 +95,12 @@ fn first_unlike(
 ) -> Result<(), Refusal>
     ensures { result ≡ first_unlike shown.now worked.now }
 {
-    for i in SHEET_LINES..CERTIFICATE_LINES {
-        if !same(shown[i], worked[i]) {
-            return Err(Refusal::Figure(i as u64 + 1));
-        }
-    }
-    Ok(())
+    let place = first_difference(&shown[SHEET_LINES..], &worked[SHEET_LINES..]);
+    refused_at(place, SHEET_LINES + 1, Refusal::Figure)
 }
 
 // The first of the questions from the second on that a certificate's values do not meet.
+#[tactic(auto, using(crate::proofs::OutcomeSteps::comparing), unfolding(crate::specs::Outcome::checked_read))]
 fn compared(shown: &[i128; CERTIFICATE_LINES]) -> Result<(), Refusal>
     requires { Words shown.now }
     ensures { result ≡ checked_read (values shown.now) }
@@ -109,7 +111,8 @@ fn compared(shown: &[i128; CERTIFICATE_LINES]) -> Result<(), Refusal>
 }
 
 // The length of a certificate that is the one written for its own sheet, or the refusal.
-fn checked_length(certificate: &[u8]) -> Result<usize, Refusal>
+#[tactic(auto, using(crate::proofs::OutcomeSteps::verifying))]
+pub fn verify(certificate: &[u8]) -> Result<usize, Refusal>
     ensures { result ≡ length_of (check_outcome certificate.now) }
 {
     compared(&reading::read_certificate(certificate)?)?;
@@ -120,5 +123,5 @@ fn checked_length(certificate: &[u8]) -> Result<usize, Refusal>
 pub fn check(certificate: &[u8]) -> Answer
     ensures { result ≡ answer_of refusal_answer (check_outcome certificate.now) }
 {
-    answered(checked_length(certificate))
+    answered(verify(certificate))
 }

@@ -11,7 +11,7 @@ mod writing;
 
 use section::SHEET_LINES;
 
-// A certificate is its sheet's lines and those of the figures.
+// The lines of the figures, and of a certificate, which has its sheet's lines above them.
 pub const FIGURE_LINES: usize = 6;
 
 pub const CERTIFICATE_LINES: usize = SHEET_LINES + FIGURE_LINES;

@@ -1,5 +1,5 @@
 // Reading a sheet, and the lines of a certificate: the first question. (docs/WORKING.md, 15.)
-ghost use Rattle.std.specs.Prelude.{◌≡◌, ◌≤◌, length, IfOk};
+ghost use Rattle.std.specs.Prelude.{◌≡◌, ◌≤◌, ◌<◌, ◌^◌, nat_abs, length, IfOk};
 ghost use Rattle.lines.specs.Texts.{Words};
 ghost use Rattle.section.specs.Sheets.{sheet_lines};
 ghost use Rattle.certificate.specs.declared.Refusal.TheVariants.{Spelling};
@@ -20,11 +20,20 @@ impl From<BadLine> for Refusal {
 }
 
 // The values of a certificate's lines, or that one is bad.
+#[tactic(auto, using(crate::proofs::OutcomeSteps::reading_certificates))]
 pub fn read_certificate(s: &[u8]) -> Result<[i128; CERTIFICATE_LINES], Refusal>
     ensures value { result ≡ certificate_in s.now }
     ensures words { IfOk result Words }
 {
     Ok(reading::table(s, keys())?)
+}
+
+// The number that a line shows.
+fn number(value: i128) -> u64
+    requires { nat_abs value < 2 ^ 64 }
+    ensures { result ≡ nat_abs value }
+{
+    value.unsigned_abs() as u64
 }
 
 // The sheet that a certificate's first lines, or a sheet's, show.
@@ -33,14 +42,13 @@ pub fn sheet_shown(values: &[i128]) -> Sheet
     requires words { Words values.now }
     ensures { result ≡ sheet_shown values.now }
 {
-    let mut numbers = [0; SHEET_LINES];
-    for i in 0..SHEET_LINES {
-        numbers[i] = values[i].unsigned_abs() as u64;
-    }
-    Sheet::from(numbers)
+    let mut first = [0; SHEET_LINES];
+    first.copy_from_slice(&values[..SHEET_LINES]);
+    Sheet::from(first.map(number))
 }
 
 // The sheet that some bytes are, or that one of their lines is bad.
+#[tactic(auto, using(crate::proofs::OutcomeSteps::reading_sheets))]
 pub fn read_sheet(s: &[u8]) -> Result<Sheet, Refusal>
     ensures { result ≡ sheet_in s.now }
 {

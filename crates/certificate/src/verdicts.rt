@@ -4,14 +4,14 @@ ghost use Rattle.std.specs.Prelude.{◌≡◌, ◌≤◌, ◌<◌, map, not, IfS
 ghost use Rattle.std.specs.List.{position_from, zip};
 ghost use Rattle.questions.specs.Claims.{test};
 ghost use Rattle.questions.specs.Asking.{first_of, first_in};
-ghost use Rattle.section.specs.Sound.{Question2, Sound};
+ghost use Rattle.section.specs.Sound.{Question2};
 ghost use Rattle.section.specs.Sheets.{sheet_lines, ranges, lip};
 ghost use Rattle.section.specs.Figures.{own_figures};
 ghost use Rattle.certificate.specs.Questions.{question2, on_lengths, on_lips, question11, spanned};
 ghost use Rattle.certificate.specs.Questions.{first_refusal, judged, verdict, verdict_of};
 
 use crate::{Flange, Refusal};
-use questions::asking::ask;
+use questions::asking::{ask, refused_at};
 use section::{Figures, SHEET_LINES, Sheet, SoundSheet};
 
 // What a value may be: from the first number to the second, both included, or one of the two.
@@ -26,7 +26,7 @@ impl Span {
         ensures { result ≡ test (spanned self v) }
     {
         match self {
-            Span::Upto(least, most) => least <= v && v <= most,
+            Span::Upto(least, most) => (least..=most).contains(&v),
             Span::OneOf(a, b) => v == a || v == b,
         }
     }
@@ -65,10 +65,8 @@ fn in_range(spans: &[Span; SHEET_LINES], q: Sheet) -> Result<(), Refusal>
     requires { map spanned spans.now ≡ ranges }
     ensures { result ≡ first_of (question2 q) }
 {
-    match first_outside(spans, &<[u64; SHEET_LINES]>::from(q)) {
-        Some(i) => Err(Refusal::Range(i as u64 + 1)),
-        None => Ok(()),
-    }
+    let place = first_outside(spans, &<[u64; SHEET_LINES]>::from(q));
+    refused_at(place, 1, Refusal::Range)
 }
 
 // Questions 3 to 6: t <= tnom; b <= 60t, flange 1 then 2; c <= 50t; h <= 500t.
@@ -124,11 +122,11 @@ pub fn first_refusal(q: Sheet) -> Result<(), Refusal>
 }
 
 // Question 11: whether the area's upper end is at most area + allow. If so, the figures.
-fn allowance(q: Sheet) -> Result<Figures, Refusal>
-    requires { Sound q }
-    ensures { result ≡ verdict_of (judged (first_of (question11 q)) (own_figures q)) }
+#[tactic(auto, using(crate::proofs::Steps::eleventh_met))]
+fn allowance(sound: SoundSheet) -> Result<Figures, Refusal>
+    ensures { let q = sound.sheet in result ≡ verdict_of (judged (first_of (question11 q)) (own_figures q)) }
 {
-    let worked = SoundSheet { sheet: q }.work(q.scale());
+    let worked = sound.work(sound.sheet.scale());
     ask(worked.within_allowance(), Refusal::Allowance)?;
     Ok(worked.figures())
 }
@@ -139,5 +137,5 @@ pub fn verdict_of(q: Sheet) -> Result<Figures, Refusal>
     ensures { result ≡ verdict_of (verdict q) }
 {
     first_refusal(q)?;
-    allowance(q)
+    allowance(SoundSheet { sheet: q })
 }

@@ -4,13 +4,20 @@ ghost use Rattle.section.specs.Figures.{Printed, own_figures};
 ghost use Rattle.section.specs.Forms.{figures_of};
 ghost use Rattle.lines.specs.Fields.{field};
 ghost use Rattle.lines.specs.Texts.{lines_text};
-ghost use Rattle.certificate.specs.Certificates.{figure_values, certificate_values};
+ghost use Rattle.certificate.specs.Certificates.{sheet_values, figure_values, certificate_values};
 ghost use Rattle.certificate.specs.Forms.{certificate_text};
 
 use crate::keys::keys;
 use crate::{CERTIFICATE_LINES, FIGURE_LINES};
 use lines::writing::Lines;
 use section::{Figures, SHEET_LINES, Sheet};
+
+// The values of a sheet's lines.
+fn sheet_values(q: Sheet) -> [i128; SHEET_LINES]
+    ensures { result ≡ sheet_values q }
+{
+    <[u64; SHEET_LINES]>::from(q).map(i128::from)
+}
 
 // The values of the lines behind the sheet's.
 fn figure_values(f: Figures) -> [i128; FIGURE_LINES]
@@ -31,15 +38,9 @@ pub fn line_values(q: Sheet, f: Figures) -> [i128; CERTIFICATE_LINES]
     requires { f ≡ figures_of (own_figures q) }
     ensures { result ≡ certificate_values q }
 {
-    let numbers = <[u64; SHEET_LINES]>::from(q);
-    let figures = figure_values(f);
     let mut values = [0; CERTIFICATE_LINES];
-    for i in 0..SHEET_LINES {
-        values[i] = i128::from(numbers[i]);
-    }
-    for i in 0..FIGURE_LINES {
-        values[SHEET_LINES + i] = figures[i];
-    }
+    values[..SHEET_LINES].copy_from_slice(&sheet_values(q));
+    values[SHEET_LINES..].copy_from_slice(&figure_values(f));
     values
 }
 

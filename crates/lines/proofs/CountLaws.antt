@@ -1,16 +1,17 @@
 -- Lines of bytes that stand behind others, and how many.
 use Prim.Native.Nat.{ℕ, suc, ◌+◌, ◌-◌, ◌≤◌, ◌<◌}
-use mathlib.Core.Bool.{cond}
+use mathlib.Core.Bool.{Bool, false, cond, not}
 use mathlib.Core.List.{List, [], ◌∷◌, ◌++◌, append-nil}
 use mathlib.Core.Path.{◌≡◌, refl, ap, ◌∙◌}
 use native.Mathlib.Omega.{arith}
 use borrow.Author.Tests.{eq-eqb, ne_eqb}
 use lib.Dec.{eqb}
 use lib.ListN.{length, get_or, length-append}
-use Rattle.std.specs.Prelude.{◌==◌}
+use Rattle.std.specs.Prelude.{◌==◌, Option, None, Some, MatchOption, IfSome}
+use Rattle.std.specs.Borrow.{Bor}
 use Rattle.std.specs.List.{count_by}
 use Rattle.std.proofs.lemmas.List.Sums.{sum_by-cons}
-use Rattle.lines.proofs.Tests.{by_test}
+use Rattle.questions.proofs.Laws.{by_test}
 use Rattle.lines.specs.Ascii.{newline}
 use Rattle.lines.specs.Splitting.{lengthened, split_lines, newlines, unended}
 use Rattle.lines.proofs.SplitLaws.{by_byte, split_here, split_onward, count_here, count_onward, split_count, split_some}
@@ -51,13 +52,22 @@ unended_join s [] g h = ap unended (append-nil s) ∙ g
 unended_join s (b ∷ t) g h = unended-append s (b ∷ t) (omega arith) ∙ h
 
 -- the last byte tells
-pub unended_last : (s : List ℕ) → 0 < length s → unended s ≡ cond (eqb (get_or s (length s - 1) 0) newline) 0 1
+pub unended_last : (s : List ℕ) (d : ℕ) → 0 < length s → unended s ≡ cond (eqb (get_or s (length s - 1) d) newline) 0 1
 unfolding unended
-unended_last [] h = absurd (omega arith)
-unended_last (b ∷ []) h = refl
-unended_last (b ∷ c ∷ s) h =
+unended_last [] d h = absurd (omega arith)
+unended_last (b ∷ []) d h = refl
+unended_last (b ∷ c ∷ s) d h =
     let next : suc (suc (length s) - 1) ≡ suc (suc (length s)) - 1 = omega arith in
-    unended_last (c ∷ s) (omega arith) ∙ ap (λ (k : ℕ). cond (eqb (get_or (b ∷ c ∷ s) k 0) newline) 0 1) next
+    unended_last (c ∷ s) d (omega arith) ∙ ap (λ (k : ℕ). cond (eqb (get_or (b ∷ c ∷ s) k d) newline) 0 1) next
+
+-- as the library gives it
+pub unended_told : (s : List ℕ) (last : Option (Bor ℕ)) (r : Bool) → MatchOption last (length s ≤ 0) (λ b. 0 < length s)
+    → IfSome last (λ b. b.now ≡ get_or s (length s - 1) b.now) → MatchOption last (r ≡ false) (λ b. r ≡ not (b.now == newline)) → r ≡ (unended s == 1)
+unfolding unended
+unended_told [] None r some is told = told
+unended_told (x ∷ s) None r some is told = absurd (omega arith)
+unended_told s (Some b) r some is told =
+    told ∙ rw (unended_last s b.now some, ← is) (by_byte b.now (λ e. rw (eq-eqb b.now newline e) refl) (λ n. rw (ne_eqb b.now newline n) refl))
 
 pub unended_most : (s : List ℕ) → unended s ≤ 1
 unfolding unended

@@ -1,19 +1,20 @@
 -- Numbers in decimal: by the last digit, their length, and how the code writes them.
 use Prim.Native.Nat.{ℕ, zero, suc, ◌+◌, ◌-◌, ◌/◌, ◌%◌, ◌^◌, ◌≤◌, ◌<◌}
 use mathlib.Core.Bool.{Bool, true, false}
-use mathlib.Core.List.{List, [], ◌∷◌, ◌++◌}
+use mathlib.Core.List.{List, [], ◌∷◌, ◌++◌, append_assoc}
 use mathlib.Core.Path.{◌≡◌, refl, sym, ap, ◌∙◌}
 use native.Mathlib.Omega.{arith}
 use borrow.Author.Tests.{lt-ltb, le-ltb, ltb-true, ltb-false}
 use lib.Dec.{ltb}
 use lib.IntN.{ℤ, pos, negsuc, nat_abs}
-use lib.ListN.{length, set}
+use lib.ListN.{length, set, drop}
+use Rattle.std.proofs.lemmas.Grind.{drop-set_at}
 use Rattle.std.specs.Fmt.{decimal as std·decimal, signed_decimal}
 use Rattle.std.proofs.lemmas.Fmt.{decimal_by_steps_wide}
 use Rattle.lines.specs.Ascii.{digit0, minus}
 use Rattle.lines.specs.Decimal.{digits_in, decimal, integer_text, fixed_text}
 use Rattle.questions.specs.Buffers.{over}
-use Rattle.lines.proofs.LentParts.{length_snoc, over_nothing, over-set}
+use Rattle.lines.proofs.LentParts.{length_snoc}
 
 -- a number below ten is one digit, however many steps are allowed
 in_small : (k n : ℕ) → n < 10 → digits_in k n ≡ (digit0 + n) ∷ []
@@ -95,6 +96,22 @@ length_four n h =
       ap (λ (m : ℕ). length (decimal m)) same,
     )
 
+-- the lengths for which the code tests
+module _ (n : ℕ) where
+  pub two_digits : 10 ≤ n → n < 100 → length (decimal n) ≡ 2
+  two_digits h g = sym (length_between 1 n h g)
+
+  pub three_digits : 100 ≤ n → n < 1000 → length (decimal n) ≡ 3
+  three_digits h g = sym (length_between 2 n h g)
+
+  pub four_digits : 1000 ≤ n → n < 10000 → length (decimal n) ≡ 4
+  four_digits h g = sym (length_between 3 n h g)
+
+  pub word_digits : n < 2 ^ 64 → length (decimal n) ≤ 20
+  word_digits h = decimal-length 19 n (omega arith)
+
+pub ruleset widths = (length_small, two_digits, three_digits, four_digits, length_four, word_digits)
+
 -- fixed digits
 
 pub fixed_length : (k n : ℕ) → length (fixed_text k n) ≡ k
@@ -102,20 +119,23 @@ unfolding fixed_text
 fixed_length zero n = refl
 fixed_length (suc k) n = length_snoc (fixed_text k (n / 10)) (digit0 + n % 10) ∙ omega (arith, fixed_length k (n / 10))
 
--- the last digit behind the digits before it
-pub fixed_next : (k n : ℕ) (b : List ℕ) → 0 < k → k ≤ length b → set (over (fixed_text (k - 1) (n / 10)) b) (k - 1) (digit0 + n % 10) ≡ over (fixed_text k n) b
-unfolding fixed_text
+-- with the last of the digits that are left written, those before it are left
+pub fixed_next : (k n : ℕ) (b : List ℕ) → 0 < k → k ≤ length b → over (fixed_text (k - 1) (n / 10)) (set b (k - 1) (digit0 + n % 10)) ≡ over (fixed_text k n) b
+unfolding fixed_text over
 fixed_next zero n b p h = absurd (omega arith)
 fixed_next (suc k) n b p h =
     let less : suc k - 1 ≡ k = omega arith in
+    let t = fixed_text k (n / 10) in
+    let d = digit0 + n % 10 in
     let size = fixed_length k (n / 10) in
-    ap (λ (j : ℕ). set (over (fixed_text j (n / 10)) b) j (digit0 + n % 10)) less
-    ∙ ap (λ (j : ℕ). set (over (fixed_text k (n / 10)) b) j (digit0 + n % 10)) (sym size)
-    ∙ over-set (fixed_text k (n / 10)) b (digit0 + n % 10) (omega (arith, size))
+    ap (λ (j : ℕ). over (fixed_text j (n / 10)) (set b j d)) less
+    ∙ ap (λ (l : List ℕ). t ++ l) (drop-set_at b k (length t) d size h)
+    ∙ sym (append_assoc t (d ∷ []) _ ∙ ap (λ (j : ℕ). t ++ (d ∷ drop j b)) (length_snoc t d ∙ ap (λ (j : ℕ). j + 1) size))
 
-pub fixed_nothing : (k n : ℕ) (b : List ℕ) → k ≡ 0 → b ≡ over (fixed_text k n) b
-unfolding fixed_text
-fixed_nothing k n b e = over_nothing b ∙ ap (λ (j : ℕ). over (fixed_text j n) b) (sym e)
+-- none is left
+pub fixed_nothing : (k n : ℕ) (b : List ℕ) → k ≡ 0 → over (fixed_text k n) b ≡ b
+unfolding fixed_text over
+fixed_nothing k n b e = rw e refl
 
 -- an integer whose size fits a word has at most twenty digits and a minus
 pub integer_most : (v : ℤ) → nat_abs v < 10 ^ 20 → length (integer_text v) ≤ 21

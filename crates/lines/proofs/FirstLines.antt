@@ -1,5 +1,5 @@
 -- The first lines of some bytes: they are a part of them, and the lines behind are those of the bytes behind.
-use Prim.Native.Nat.{ℕ, zero, suc, ◌+◌, ◌≤◌}
+use Prim.Native.Nat.{ℕ, zero, suc, ◌+◌}
 use mathlib.Core.List.{List, [], ◌∷◌, ◌++◌, append-nil}
 use mathlib.Core.Logic.{inl}
 use mathlib.Core.Path.{◌≡◌, refl, sym, ap, ◌∙◌}
@@ -32,9 +32,6 @@ module _ (k : ℕ) (s : List ℕ) where
 
   pub front_taken : front ≡ take (length front) s
   front_taken = sym (ap (take (length front)) front_then ∙ take-append_seam front (joined (drop k (split_lines s))))
-
-  pub front_most : length front ≤ length s
-  front_most = omega (arith, ap length front_then, length-append front (joined (drop k (split_lines s))))
 
   pub lines_behind_front : split_lines (drop (length front) s) ≡ drop k (split_lines s)
   lines_behind_front = ap split_lines behind_front ∙ split_unique (drop k (split_lines s)) (lines_dropped k (split_lines s) (split_lines_lem s))

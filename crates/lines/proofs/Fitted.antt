@@ -1,18 +1,18 @@
 -- A text that is written if it fits, as questions tell it over any refusals.
 use Rattle.std.specs.Prelude.{Result, Ok, Err, nat_le}
-use Prim.Native.Nat.{ℕ, ◌≤◌, ◌<◌}
-use mathlib.Core.Bool.{Bool, true, false, cond}
+use Prim.Native.Nat.{ℕ}
+use mathlib.Core.Bool.{cond}
 use mathlib.Core.List.{List}
 use mathlib.Core.Path.{◌≡◌, sym, ap, ◌∙◌}
 use native.Mathlib.Omega.{arith}
 use borrow.Author.Tests.{leb-true, leb-false}
 use lib.ListN.{length}
 use Rattle.questions.specs.Buffers.{over}
-use Rattle.questions.specs.Outcomes.{length_of, length_in, buffer_in, fitted}
+use Rattle.questions.specs.Outcomes.{length_in, buffer_in, fitted}
 use Rattle.questions.proofs.Laws.{fits, too_long, length_refused, length_written, buffer_refused, buffer_written}
 use Rattle.lines.specs.declared.texts.TooShort.{TooShort}
 use Rattle.lines.specs.Fitting.{fitted as fitted·text, buffer_fitted}
-use Rattle.lines.proofs.Tests.{by_test}
+use Rattle.questions.proofs.Laws.{by_test}
 
 not_both : {A E : Type 0} {x : A} {e : E} → ◌≡◌ {A = Result A E} (Ok x) (Err e) → ⊥
 not_both h = let z : ◌≡◌ {A = ℕ} 0 1 = cc in omega arith

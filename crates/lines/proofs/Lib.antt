@@ -1,7 +1,5 @@
-pub mod Tests
 pub mod LentParts
 pub mod DecimalLaws
-pub mod RowLaws
 pub mod RunLaws
 pub mod FirstLines
 pub mod SplitLaws

@@ -1,31 +1,20 @@
--- Lines: the letters, their lengths, lines behind others, and one line more behind the first ones, as the code's loops write them.
+-- Lines: their lengths, the first, and those behind it.
 use Prim.Native.Nat.{ℕ, ◌+◌, ◌^◌, ◌≤◌, ◌<◌}
 use mathlib.Core.List.{List, [], ◌∷◌, ◌++◌, map, append_assoc}
 use mathlib.Core.Logic.{◌⊎◌, inl, inr}
 use mathlib.Core.Path.{◌≡◌, refl, sym, ap, ◌∙◌}
 use native.Mathlib.Omega.{arith}
-use borrow.Author.Tests.{eq-eqb, ne_eqb}
 use lib.IntN.{ℤ, pos, nat_abs}
-use lib.ListN.{length, set, length-append}
+use lib.ListN.{length, length-append}
 use Rattle.lines.specs.declared.keys.Kind.TheVariants.{Letter, Number, Signed}
 use Rattle.lines.specs.declared.keys.Kind.{Kind}
 use Rattle.lines.specs.Decimal.{integer_text}
 use Rattle.lines.specs.Ascii.{newline}
-use Rattle.questions.specs.Buffers.{over}
 use Rattle.lines.specs.declared.keys.Key.{Key}
 use Rattle.lines.specs.Fields.{Field, field}
-use Rattle.lines.specs.Texts.{letter_of, value_text, line_text, lines_text}
+use Rattle.lines.specs.Texts.{value_text, line_text, lines_text}
 use Rattle.lines.proofs.DecimalLaws.{decimal-length, integer_most}
-use Rattle.lines.proofs.LentParts.{length_snoc, over-set}
-
-module _ (x y : ℕ) (v : ℤ) where
-  pub letter_zero : nat_abs v ≡ 0 → letter_of x y v ≡ x
-  unfolding letter_of
-  letter_zero e = rw (eq-eqb (nat_abs v) 0 e)
-
-  pub letter_one : (nat_abs v ≡ 0 → ⊥) → letter_of x y v ≡ y
-  unfolding letter_of
-  letter_one n = rw (ne_eqb (nat_abs v) 0 n)
+use Rattle.lines.proofs.LentParts.{length_snoc}
 
 module _ (F : Field) (v : ℤ) where
   pub line_is : line_text F v ≡ (F.key ++ value_text F.kind v) ++ (newline ∷ [])
@@ -34,15 +23,6 @@ module _ (F : Field) (v : ℤ) where
 
   pub line_size : length (line_text F v) ≡ length F.key + length (value_text F.kind v) + 1
   line_size = ap length line_is ∙ length_snoc (F.key ++ value_text F.kind v) newline ∙ ap (λ (n : ℕ). n + 1) (length-append F.key (value_text F.kind v))
-
-  -- the newline behind key and value ends the line
-  pub line_ended : (b d : List ℕ) (e : ℕ) → length (line_text F v) ≤ length b → e ≡ length F.key + length (value_text F.kind v)
-      → d ≡ over (F.key ++ value_text F.kind v) b → set d e newline ≡ over (line_text F v) b
-  line_ended b d e room ee ed =
-      let t = F.key ++ value_text F.kind v in
-      ap (λ (l : List ℕ). set l e newline) ed ∙ ap (λ (k : ℕ). set (over t b) k newline) (ee ∙ sym (length-append F.key (value_text F.kind v)))
-      ∙ over-set t b newline (omega (arith, line_size, length-append F.key (value_text F.kind v)))
-      ∙ ap (λ (l : List ℕ). over l b) (sym line_is)
 
 -- a line with a number of at most twenty digits
 pub number_line_lem : (F : Field) (n : ℕ) → F.kind ≡ Number → n < 10 ^ 20 → length (line_text F (pos n)) ≤ length F.key + 21
@@ -58,13 +38,6 @@ line_most F v h = omega (arith, line_size F v, of_kind F.kind)
     of_kind (Letter x y) = omega arith
     of_kind Number = integer_most v h
     of_kind Signed = integer_most v h
-
--- a value whose kind is no letter
-pub other_text : (k : Kind) (v : ℤ) → ((x y : ℕ) → k ≡ Letter x y → ⊥) → value_text k v ≡ integer_text v
-unfolding value_text
-other_text (Letter x y) v h = absurd (h x y refl)
-other_text Number v h = refl
-other_text Signed v h = refl
 
 -- the first line, and those behind it; none where keys or values have ended
 module _ (keys : List Key) (vs : List ℤ) where

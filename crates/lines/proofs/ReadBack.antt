@@ -9,7 +9,8 @@ use lib.Dec.{ltb, eqb}
 use lib.IntN.{ℤ, pos, negsuc, nat_abs}
 use lib.ListN.{length, drop}
 use lib.Seq.{drop-append_seam}
-use Rattle.lines.proofs.Tests.{by_test, and_both}
+use Rattle.std.proofs.lemmas.Bool.{and_from}
+use Rattle.questions.proofs.Laws.{by_test}
 use Rattle.lines.specs.Ascii.{newline, digit0, minus}
 use Rattle.lines.specs.Decimal.{decimal, integer_text}
 use Rattle.lines.specs.declared.keys.Kind.{Kind}
@@ -23,7 +24,7 @@ use Rattle.lines.proofs.ReadSteps.{negated_more}
 use Rattle.lines.proofs.ReadFound.{bad_not_got, line_found, line_of}
 
 pub digit_first : (d : ℕ) → d < 10 → is_digit (digit0 + d) ≡ true
-digit_first d h = and_both (le-leb digit0 (digit0 + d) (omega arith)) (le-leb (digit0 + d) (digit0 + 9) (omega arith))
+digit_first d h = and_from _ _ (le-leb digit0 (digit0 + d) (omega arith)) (le-leb (digit0 + d) (digit0 + 9) (omega arith))
 
 first_digit : (n : ℕ) (t : List ℕ) → 0 < n → n < 10 → read_number ((digit0 + n) ∷ t) ≡ read_digits (most_digits - 1) n t
 unfolding read_number
@@ -110,7 +111,7 @@ value_back Signed v t h = signed_back v t h
 pub begins_back : (k s : List ℕ) → begins k (k ++ s) ≡ true
 unfolding begins
 begins_back [] s = refl
-begins_back (b ∷ k) s = and_both (eq-eqb b b refl) (begins_back k s)
+begins_back (b ∷ k) s = and_from _ _ (eq-eqb b b refl) (begins_back k s)
 
 -- the line of a field with a value that can stand in it is read
 pub line_back : (F : Field) (v : ℤ) (t : List ℕ) → Spelt F v → read_line F (line_text F v ++ t) ≡ got v t

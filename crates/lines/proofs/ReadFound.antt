@@ -9,7 +9,8 @@ use borrow.Author.Tests.{eqb-true, eqb-false, ne_eqb}
 use lib.Dec.{eqb}
 use lib.IntN.{ℤ, pos, neg_ℤ, nat_abs}
 use lib.ListN.{length, drop, length-append}
-use Rattle.lines.proofs.Tests.{by_test, and_left, and_right}
+use Rattle.std.proofs.lemmas.Bool.{and_parts}
+use Rattle.questions.proofs.Laws.{by_test}
 use Rattle.lines.specs.Ascii.{newline, digit0, minus}
 use Rattle.lines.specs.Decimal.{decimal, integer_text}
 use Rattle.lines.specs.declared.keys.Kind.{Kind}
@@ -218,7 +219,8 @@ unfolding begins
 begins_text [] s e = refl
 begins_text (b ∷ k) [] e = absurd (let z : ◌≡◌ {A = ℕ} 0 1 = cc in omega arith)
 begins_text (b ∷ k) (c ∷ s) e =
-    ap (λ (x : ℕ). x ∷ s) (eqb-true c b (and_left (eqb c b) (begins k s) e)) ∙ ap (λ (l : List ℕ). b ∷ l) (begins_text k s (and_right (eqb c b) (begins k s) e))
+    let h = and_parts (eqb c b) (begins k s) e in
+    ap (λ (x : ℕ). x ∷ s) (eqb-true c b h.0) ∙ ap (λ (l : List ℕ). b ∷ l) (begins_text k s h.1)
 
 pub line_of : (F : Field) (v : ℤ) (t : List ℕ) → line_text F v ++ t ≡ F.key ++ (value_text F.kind v ++ (newline ∷ t))
 unfolding line_text

@@ -7,15 +7,12 @@ use native.Mathlib.Omega.{arith}
 use lib.IntN.{ℤ}
 use lib.ListN.{length, take, drop, set, get_or, drop_of_length-le, length-map, get_or-map}
 use lib.Seq.{drop-cons, take_all, take-suc-set}
+use Rattle.std.proofs.lemmas.List.{nil_from_length}
 use Rattle.lines.specs.declared.keys.Key.{Key}
 use Rattle.lines.specs.declared.keys.Kind.TheVariants.{Letter}
 use Rattle.lines.specs.Fields.{Field, field}
 use Rattle.lines.specs.Reading.{got, bad, read_line, values, bad_line, read_end, read_from, read_lines}
 use Rattle.lines.proofs.ReadTables.{behind, behind_snoc, behind_bad, behind-values, line_next, line_stop}
-
-no_bytes : (t : List ℕ) → length t ≡ 0 → t ≡ []
-no_bytes [] h = refl
-no_bytes (b ∷ t) h = absurd (omega arith)
 
 -- a key by default, which no index within the code's slices reads
 abbrev pub no_key : Key
@@ -34,21 +31,21 @@ module _ {keys : List Key} {s : List ℕ} {i : ℕ} {vs : List ℤ} {t : List �
     T : List Field
     T = map field keys
 
-    next_line : read_lines (map field keys) s ≡ behind (take i vs) (read_from (suc i) (field (get_or keys i d) ∷ drop (suc i) (map field keys)) t)
-    next_line =
+    line_of_table : read_lines (map field keys) s ≡ behind (take i vs) (read_from (suc i) (field (get_or keys i d) ∷ drop (suc i) (map field keys)) t)
+    line_of_table =
         b.whole
         ∙ ap (λ (U : List Field). behind (take i vs) (read_from (suc i) U t))
         (drop-cons (map field keys) i (field d) (omega (arith, length-map keys field)) ∙ ap (λ (F : Field). F ∷ drop (suc i) (map field keys)) (get_or-map field keys i d))
 
     pub line_bad : read_line (field (get_or keys i d)) t ≡ bad → read_lines (map field keys) s ≡ bad_line (i + 1)
     line_bad h =
-        next_line ∙ ap (behind (take i vs)) (line_stop (suc i) (field (get_or keys i d)) (drop (suc i) (map field keys)) t h)
+        line_of_table ∙ ap (behind (take i vs)) (line_stop (suc i) (field (get_or keys i d)) (drop (suc i) (map field keys)) t h)
         ∙ behind_bad (take i vs) (suc i) ∙ ap bad_line (sym (add-one i))
 
     pub line_more : (v : ℤ) (u : List ℕ) → i < length vs → read_line (field (get_or keys i d)) t ≡ got v u → Begun keys s (i + 1) (set vs i v) u
     line_more v u room h = subst (λ (k : ℕ). Begun keys s k (set vs i v) u) (sym (add-one i)) (record {
       whole =
-          next_line ∙ ap (behind (take i vs)) (line_next (suc i) (field (get_or keys i d)) (drop (suc i) (map field keys)) t v u h)
+          line_of_table ∙ ap (behind (take i vs)) (line_next (suc i) (field (get_or keys i d)) (drop (suc i) (map field keys)) t v u h)
           ∙ sym (behind_snoc (take i vs) v (read_from (suc (suc i)) (drop (suc i) (map field keys)) u))
           ∙ ap (λ (l : List ℤ). behind l (read_from (suc (suc i)) (drop (suc i) (map field keys)) u)) (sym (take-suc-set vs i v room));
     })
@@ -65,7 +62,7 @@ module _ {keys : List Key} {s : List ℕ} {i : ℕ} {vs : List ℤ} {t : List �
     pub table_end : length vs ≤ i → length t ≡ 0 → read_lines (map field keys) s ≡ values vs
     unfolding read_end
     table_end full h =
-        last_line ∙ ap (λ (l : List ℕ). behind (take i vs) (read_end (suc i) l)) (no_bytes t h)
+        last_line ∙ ap (λ (l : List ℕ). behind (take i vs) (read_end (suc i) l)) (nil_from_length t h)
         ∙ behind-values (take i vs) [] ∙ ap values (append-nil (take i vs) ∙ take_all i vs full)
 
     pub table_behind : 0 < length t → read_lines (map field keys) s ≡ bad_line (i + 1)
@@ -73,3 +70,6 @@ module _ {keys : List Key} {s : List ℕ} {i : ℕ} {vs : List ℤ} {t : List �
     table_behind h =
         last_line ∙ ap (λ (l : List ℕ). behind (take i vs) (read_end (suc i) l)) (drop-cons t 0 0 h) ∙ behind_bad (take i vs) (suc i)
         ∙ ap bad_line (sym (add-one i))
+
+-- what the loop needs before, at and behind a line
+pub ruleset next_line = (none_read, line_bad, table_end, table_behind)

@@ -1,23 +1,24 @@
 -- Digits that are read, how large their number can be, and a minus in front of it.
 use Prim.Native.Nat.{ℕ, zero, suc, ◌+◌, ◌-◌, ◌*◌, ◌^◌, ◌≤◌, ◌<◌}
-use mathlib.Core.Bool.{Bool, true, cond, ◌&&◌}
+use mathlib.Core.Bool.{Bool, true, false, cond, ◌&&◌}
 use mathlib.Core.List.{List, [], ◌∷◌}
 use mathlib.Core.Path.{◌≡◌, refl, ap}
 use native.Mathlib.Nat.{le_trans, mul_assoc, mul-le-mul_right, mul-le-mul_left, one-le-pow, pow-succ'}
 use native.Mathlib.Omega.{arith}
-use borrow.Author.Tests.{leb-true, eq-eqb, ne_eqb}
+use borrow.Author.Tests.{leb-true, ne_eqb}
 use lib.Dec.{leb, eqb}
 use lib.IntN.{ℤ, pos, neg_ℤ, nat_abs}
 use lib.ListN.{length, take}
 use Rattle.std.specs.Prelude.{nat_eq}
 use Rattle.std.specs.Cmp.Lexicographic.{pointwise}
-use Rattle.lines.proofs.Tests.{by_test, and_left, and_right}
+use Rattle.std.proofs.lemmas.Bool.{and_parts}
+use Rattle.questions.proofs.Laws.{by_test}
 use Rattle.lines.specs.Ascii.{digit0}
-use Rattle.lines.specs.Reading.{Front, got, bad, is_digit, ended, read_digits}
+use Rattle.lines.specs.Reading.{Front, got, bad, first, rest, is_digit, ended, read_digits}
 use Rattle.lines.specs.Reading.{read_fixed, negated, read_letter, begins}
 
 pub digit_range : (b : ℕ) → is_digit b ≡ true → (digit0 ≤ b) × (b ≤ digit0 + 9)
-digit_range b e = (leb-true digit0 b (and_left _ _ e), leb-true b (digit0 + 9) (and_right (leb digit0 b) _ e))
+digit_range b e = let h = and_parts (leb digit0 b) _ e in (leb-true digit0 b h.0, leb-true b (digit0 + 9) h.1)
 
 -- digits that are read, and those still allowed, stay below the largest number
 pub digits_bound : (most left n d : ℕ) → suc n * 10 ^ suc left ≤ most → d ≤ 9 → suc (n * 10 + d) * 10 ^ left ≤ most
@@ -25,32 +26,52 @@ digits_bound most left n d h k =
     let step : suc (n * 10 + d) ≤ suc n * 10 = omega arith in
     le_trans (mul-le-mul_right (10 ^ left) step) (rw (mul_assoc (suc n) 10 (10 ^ left), ← (pow-succ' 10 left)) h)
 
-pub digits_fit : (most left n : ℕ) → suc n * 10 ^ left ≤ most → n < most
-digits_fit most left n h = omega (arith, mul-le-mul_left {m = 1} {n = 10 ^ left} (suc n) (one-le-pow left 10 (omega arith)))
+-- Of `most` digits at most, i are read.
+module _ (most i n : ℕ) where
+  pub next_fits : i < most → suc n * 10 ≤ suc n * 10 ^ (most - i)
+  next_fits p =
+      let e : most - i ≡ suc (most - (i + 1)) = omega arith in
+      let one : 10 ≤ 10 ^ (most - i) = rw (e, pow-succ' 10 (most - (i + 1))) (omega (arith, one-le-pow (most - (i + 1)) 10 (omega arith))) in
+      mul-le-mul_left (suc n) one
 
--- the same of the digits that are still allowed, as the code counts them down
-pub digits_left : (most left n d : ℕ) → 0 < left → suc n * 10 ^ left ≤ most → d ≤ 9 → suc (n * 10 + d) * 10 ^ (left - 1) ≤ most
-digits_left most zero n d p h k = absurd (omega arith)
-digits_left most (suc left) n d p h k =
-    let e : suc left - 1 ≡ left = omega arith in
-    rw e (digits_bound most left n d h k)
+  pub digits_left : (limit d : ℕ) → i < most → d ≤ 9 → suc n * 10 ^ (most - i) ≤ limit → suc (n * 10 + d) * 10 ^ (most - (i + 1)) ≤ limit
+  digits_left limit d p k h =
+      let e : most - i ≡ suc (most - (i + 1)) = omega arith in
+      digits_bound limit (most - (i + 1)) n d (rw e at h) k
 
-pub next_fits : (most left n : ℕ) → 0 < left → suc n * 10 ^ left ≤ most → n * 10 + 9 < most
-next_fits most zero n p h = absurd (omega arith)
-next_fits most (suc left) n p h = omega (arith, digits_fit most left (n * 10 + 9) (digits_bound most left n 9 h (omega arith)))
+  module _ (s : List ℕ) where
+    pub digits_next : i < most → is_digit (first s) ≡ true
+        → read_digits (most - i) n s ≡ read_digits (most - (i + 1)) (n * 10 + (first s - digit0)) (rest s)
+    unfolding read_digits
+    digits_next p d = let e : most - i ≡ suc (most - (i + 1)) = omega arith in rw (e, d) refl
 
--- no digits stand where there are no bytes
-pub digits_none : (left n : ℕ) (s : List ℕ) → length s ≡ 0 → read_digits left n s ≡ bad
-unfolding read_digits ended
-digits_none zero n [] h = refl
-digits_none (suc left) n [] h = refl
-digits_none left n (b ∷ s) h = absurd (omega arith)
+    pub digits_done : most ≤ i → read_digits (most - i) n s ≡ ended (pos n) s
+    unfolding read_digits
+    digits_done p = let e : most - i ≡ 0 = omega arith in rw e refl
 
-pub fixed_none : (left n : ℕ) (s : List ℕ) → length s ≡ 0 → read_fixed left n s ≡ bad
-unfolding read_fixed ended
-fixed_none zero n [] h = refl
-fixed_none (suc left) n [] h = refl
-fixed_none left n (b ∷ s) h = absurd (omega arith)
+    pub fixed_next : i < most → is_digit (first s) ≡ true
+        → read_fixed (most - i) n s ≡ read_fixed (most - (i + 1)) (n * 10 + (first s - digit0)) (rest s)
+    unfolding read_fixed
+    fixed_next p d = let e : most - i ≡ suc (most - (i + 1)) = omega arith in rw (e, d) refl
+
+    pub fixed_end : i < most → is_digit (first s) ≡ false → read_fixed (most - i) n s ≡ bad
+    unfolding read_fixed
+    fixed_end p d = let e : most - i ≡ suc (most - (i + 1)) = omega arith in rw (e, d) refl
+
+    pub fixed_done : most ≤ i → read_fixed (most - i) n s ≡ ended (pos n) s
+    unfolding read_fixed
+    fixed_done p = let e : most - i ≡ 0 = omega arith in rw e refl
+
+-- no digit comes
+pub digits_end : (left n : ℕ) (s : List ℕ) → is_digit (first s) ≡ false → read_digits left n s ≡ ended (pos n) s
+unfolding read_digits
+digits_end zero n s d = refl
+digits_end (suc left) n s d = rw d refl
+
+-- what the loops over digits need, where at most so many may come, and where exactly so many are to come
+pub ruleset next_digit = (digits_next, digits_end, digits_done, digits_left, next_fits)
+
+pub ruleset next_of_fixed = (fixed_next, fixed_end, fixed_done, digits_left, next_fits)
 
 pub letter_none : (x y : ℕ) (s : List ℕ) → length s ≡ 0 → read_letter x y s ≡ bad
 unfolding read_letter ended
@@ -60,17 +81,9 @@ letter_none x y [] h =
     (λ e. by_test (eqb 0 y) (λ t. cond t (ended (pos 1) []) bad ≡ bad) (λ g. refl) (λ g. refl))
 letter_none x y (b ∷ s) h = absurd (omega arith)
 
-pub negated-zero : (f : Front) (v : ℤ) (s : List ℕ) → f ≡ got v s → nat_abs v ≡ 0 → negated f ≡ bad
-unfolding negated
-negated-zero f v s e z = rw (e, eq-eqb (nat_abs v) 0 z)
-
 pub negated_more : (f : Front) (v : ℤ) (s : List ℕ) → f ≡ got v s → (nat_abs v ≡ 0 → ⊥) → negated f ≡ got (neg_ℤ (pos (nat_abs v))) s
 unfolding negated
 negated_more f v s e n = rw (e, ne_eqb (nat_abs v) 0 n)
-
-pub negated-bad : (f : Front) → f ≡ bad → negated f ≡ bad
-unfolding negated
-negated-bad f e = rw e
 
 -- a key is found as the library finds what a slice begins with
 pub begins_is : (k s : List ℕ) → begins k s ≡ pointwise nat_eq (take (length k) s) k

@@ -7,7 +7,7 @@ use mathlib.Core.Path.{◌≡◌, refl, sym, ap, ◌∙◌, subst}
 use native.Mathlib.Nat.{add-zero}
 use native.Mathlib.Omega.{arith}
 use lib.IntN.{ℤ}
-use lib.ListN.{length, take, drop, length-append, take-append-drop}
+use lib.ListN.{length, take, drop, take-append-drop}
 use lib.Seq.{take-append-add}
 use Rattle.lines.specs.Fields.{Field}
 use Rattle.lines.specs.Texts.{line_text, lines_text, SpeltIn, longest_line, longest, TextOf, Begins, Unfit, FirstBad}
@@ -224,12 +224,6 @@ reads_bad T s l = (there, back)
         ∙ lines_back 1 h.first h.others h.right h.behind h.spelt
         ∙ ap (behind h.right) (Unfit-bad (1 + length h.first) h.others h.behind h.unfit)
         ∙ behind_bad h.right (1 + length h.first) ∙ ap bad_line line
-
--- the first bad line is one of the table's, or the one behind
-pub bad_line_is : (T : List Field) (s : List ℕ) (l : ℕ) → read_lines T s ≡ bad_line l → (1 ≤ l) × (l ≤ length T + 1)
-bad_line_is T s l e =
-    let f = (reads_bad T s l).0 e in
-    (omega (arith, f.number), omega (arith, f.number, ap length f.table, length-append f.first f.others))
 
 -- a text has one list of values
 pub text_tells_values : (T : List Field) (us vs : List ℤ) → SpeltIn T us → SpeltIn T vs → lines_text T us ≡ lines_text T vs → us ≡ vs

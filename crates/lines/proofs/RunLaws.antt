@@ -1,21 +1,18 @@
--- Runs of so many: the first, and those behind it; joined they are the list; how many; what tells them. Rows of numbers, and how the code writes them.
+-- Runs of so many: the first, and those behind it; joined they are the list; how many; what tells them. Rows of numbers in runs.
 use Prim.Native.Nat.{ℕ, zero, suc, ◌+◌, ◌-◌, ◌*◌, ◌^◌, ◌/◌, ◌≤◌, ◌<◌, min}
 use mathlib.Core.List.{List, [], ◌∷◌, ◌++◌, append_assoc, append-nil, map, map-append}
 use mathlib.Core.Path.{◌≡◌, refl, sym, ap, ◌∙◌}
 use native.Mathlib.Nat.{add-div_right, div-eq_of_lt}
 use native.Mathlib.Omega.{arith}
 use borrow.Author.Tests.{ltb-true, ltb-false}
-use borrow.Rule.Slice.PartMut.{put_mid}
 use lib.Dec.{ltb}
 use lib.ListN.{length, get_or, take, drop, length-append, length-take, length-drop, take-append-drop, drop_of_length-le}
-use lib.Seq.{take_all, take_at, take-take, drop_at, drop-drop}
-use Rattle.lines.proofs.Tests.{by_test}
-use Rattle.questions.specs.Buffers.{over}
+use lib.Seq.{take_all, take_at, drop_at}
+use Rattle.questions.proofs.Laws.{by_test}
 use Rattle.lines.specs.Decimal.{decimal, row_text}
 use Rattle.lines.specs.Runs.{runs_in, runs, RunsOf, rows_text}
-use Rattle.lines.specs.Splitting.{joined}
+use Rattle.lines.specs.Splitting.{joined, all_texts}
 use Rattle.lines.proofs.DecimalLaws.{decimal-length}
-use Rattle.lines.proofs.LentParts.{length-over, over_nothing, part_room, part_written}
 
 -- The runs that k elements make, and those behind the first.
 module _ (n k : ℕ) (p : 1 ≤ n) (some : 0 < k) where
@@ -143,17 +140,6 @@ module _ {A : Type 0} where
   runs_unique n (r ∷ r' ∷ rs) p h =
       run_first n r (joined (r' ∷ rs)) p h.0 ∙ ap (λ (l : List (List A)). r ∷ l) (runs_unique n (r' ∷ rs) p h.1)
 
-  -- each list has n elements
-  abbrev pub AllLong : ℕ → List (List A) → Type 0
-  AllLong n [] = Unit
-  AllLong n (r ∷ rs) = (length r ≡ n) × AllLong n rs
-
-  -- such lists joined are cut into those lists
-  pub runs_of_all : (n : ℕ) (rs : List (List A)) → 1 ≤ n → AllLong n rs → runs n (joined rs) ≡ rs
-  unfolding joined
-  runs_of_all n [] p h = runs_none n
-  runs_of_all n (r ∷ rs) p h = run_first n r (joined rs) p h.0 ∙ ap (λ (l : List (List A)). r ∷ l) (runs_of_all n rs p h.1)
-
   -- runs of one are the elements
   pub runs-one : (xs : List A) → runs 1 xs ≡ map (λ x. x ∷ []) xs
   unfolding runs runs_in
@@ -165,6 +151,12 @@ module _ {A : Type 0} where
 pub rows_join : (xs ys : List (List ℕ)) → rows_text (xs ++ ys) ≡ rows_text xs ++ rows_text ys
 unfolding rows_text
 rows_join xs ys = ap joined (map-append row_text xs ys) ∙ joined-append (map row_text xs) (map row_text ys)
+
+-- rows of what stands for a row's numbers, written as texts one behind the other
+pub rows_as_texts : {A : Type 0} (f : A → List ℕ) (xs : List A) → all_texts (λ x. row_text (f x)) xs ≡ rows_text (map f xs)
+unfolding rows_text joined
+rows_as_texts f [] = refl
+rows_as_texts f (x ∷ xs) = ap (λ (l : List ℕ). row_text (f x) ++ l) (rows_as_texts f xs)
 
 pub row_size : (n : ℕ) (ns : List ℕ) → length (row_text (n ∷ ns)) ≡ length (decimal n) + (1 + length (row_text ns))
 unfolding row_text
@@ -208,71 +200,3 @@ rows_length w ns p =
     ∙ ap (λ (k : ℕ). length text + k) r ∙ sym (row_sizes_append (take w ns) (drop w ns))
     ∙ ap (λ (l : List ℕ). length (row_text l)) (take-append-drop w ns))
     ns
-
--- a run left out is n elements left out, or all
-drop_taken : {A : Type 0} (n : ℕ) (xs : List A) → drop (length (take n xs)) xs ≡ drop n xs
-drop_taken zero xs = refl
-drop_taken (suc n) [] = refl
-drop_taken (suc n) (x ∷ xs) = drop_taken n xs
-
--- Of the numbers ns, those before number i stand in rows of w at the front of the buffer, which was b and is d, and `at` is the place behind them.
-pub record RowsBegun (w : ℕ) (ns b : List ℕ) (at i : ℕ) (d : List ℕ) : Type 0 where
-  pub text : List ℕ
-  pub whole : text ++ rows_text (runs w (drop i ns)) ≡ rows_text (runs w ns)
-  pub behind : at ≡ length text
-  pub written : d ≡ over text b
-
--- nothing is written yet
-pub rows_none : (w : ℕ) (ns b : List ℕ) → RowsBegun w ns b 0 0 b
-rows_none w ns b = record { text = []; whole = refl; behind = refl; written = over_nothing b }
-
-module _ {w at i : ℕ} {ns b d : List ℕ} (r : RowsBegun w ns b at i d) where
-  -- all numbers are written
-  pub rows_all : length ns ≤ i → (at ≡ length (rows_text (runs w ns))) × (d ≡ over (rows_text (runs w ns)) b)
-  unfolding rows_text joined
-  rows_all h =
-      let all : r.text ≡ rows_text (runs w ns) = sym (append-nil r.text) ∙ rw (drop_of_length-le ns {i = i} h, runs_none) at r.whole in
-      (r.behind ∙ ap length all, r.written ∙ ap (λ (t : List ℕ). over t b) all)
-
-  -- All rows have room.
-  module _ (room : length (rows_text (runs w ns)) ≤ length b) where
-    pub rows_inside : at ≤ length b
-    rows_inside = omega (arith, simp length-append at (ap length r.whole))
-
-    pub rows_kept : length d ≡ length b
-    rows_kept = ap length r.written ∙ length-over r.text b (omega (arith, rows_inside))
-
-    -- The run from number i on, which ends before number `end`.
-    module _ (end : ℕ) (p : 1 ≤ w) (some : i < length ns) (last : end ≡ min (i + w) (length ns)) where
-      abbrev run : List ℕ
-      run = take (end - i) (drop i ns)
-
-      run_size : end ≡ i + length (take w (drop i ns))
-      run_size = omega (arith, length-take w (drop i ns), length-drop i ns)
-
-      run_is : run ≡ take w (drop i ns)
-      run_is =
-          sym (take-take (end - i) w (drop i ns) (omega (arith, run_size, length-take w (drop i ns))))
-          ∙ take_all (end - i) (take w (drop i ns)) (omega (arith, run_size))
-
-      run-text : (r.text ++ row_text run) ++ rows_text (runs w (drop end ns)) ≡ rows_text (runs w ns)
-      run-text =
-          append_assoc r.text (row_text run) _
-          ∙ ap (λ (k : ℕ). r.text ++ (row_text run ++ rows_text (runs w (drop k ns)))) run_size
-          ∙ rw (← drop-drop (length (take w (drop i ns))) i ns, drop_taken, run_is, ← rows_next w (drop i ns) p (omega (arith, length-drop i ns))) r.whole
-
-      run_room : length r.text + length (row_text run) ≤ length b
-      run_room = omega (arith, simp length-append at (ap length run-text))
-
-      pub rows_room : length (row_text run) ≤ length (take (length d - at) (drop at d))
-      rows_room = part_room r.text (row_text run) b d at r.behind r.written run_room
-
-      -- with that run at the front of the lent part
-      pub rows_more : (n : ℕ) (e : List ℕ) → n ≡ length (row_text run) → e ≡ over (row_text run) (take (length d - at) (drop at d))
-          → RowsBegun w ns b (at + n) end (put_mid at (length d - at) d e)
-      rows_more n e size ee = record {
-        text = r.text ++ row_text run;
-        whole = run-text;
-        behind = simp length-append (omega arith);
-        written = part_written r.text (row_text run) b d at r.behind r.written run_room e ee;
-      }

@@ -1,13 +1,13 @@
 -- Values that can stand in the lines of a table: of tables behind each other, by their kind, and how long their text can be.
-use Prim.Native.Nat.{ℕ, zero, suc, ◌+◌, ◌-◌, ◌^◌, ◌≤◌, ◌<◌}
+use Prim.Native.Nat.{ℕ, suc, ◌+◌, ◌-◌, ◌^◌, ◌≤◌, ◌<◌}
 use mathlib.Core.Bool.{Bool, true, false, ◌&&◌}
 use mathlib.Core.List.{List, [], ◌∷◌, ◌++◌, map}
 use mathlib.Core.Path.{◌≡◌, refl, sym, ap, ◌∙◌}
 use native.Mathlib.Omega.{arith}
 use borrow.Author.Tests.{ne_eqb}
 use lib.IntN.{ℤ, pos, negsuc, nat_abs}
-use lib.ListN.{length, get_or, take, drop, length-append}
-use Rattle.lines.proofs.Tests.{and_left, and_right}
+use lib.ListN.{length, take, drop, length-append}
+use Rattle.std.proofs.lemmas.Bool.{and_parts}
 use Rattle.lines.specs.declared.keys.Kind.{Kind}
 use Rattle.lines.specs.declared.keys.Kind.TheVariants.{Letter, Number, Signed}
 use Rattle.lines.specs.Decimal.{integer_text}
@@ -41,26 +41,12 @@ spelt_join [] U (u ∷ us) vs g h = absurd g
 spelt_join (F ∷ T) U [] vs g h = absurd g
 spelt_join (F ∷ T) U (u ∷ us) vs g h = (g.0, spelt_join T U us vs g.1 h)
 
-pub spelt_split : (T U : List Field) (us vs : List ℤ) → length us ≡ length T → SpeltIn (T ++ U) (us ++ vs) → SpeltIn T us × SpeltIn U vs
-unfolding SpeltIn
-spelt_split [] U [] vs e h = (tt, h)
-spelt_split [] U (u ∷ us) vs e h = absurd (omega arith)
-spelt_split (F ∷ T) U [] vs e h = absurd (omega arith)
-spelt_split (F ∷ T) U (u ∷ us) vs e h = let r = spelt_split T U us vs (omega arith) h.1 in ((h.0, r.0), r.1)
-
 -- the same of values that are not split yet
 pub spelt_parts : (T U : List Field) (vs : List ℤ) → SpeltIn (T ++ U) vs → SpeltIn T (take (length T) vs) × SpeltIn U (drop (length T) vs)
 unfolding SpeltIn
 spelt_parts [] U vs h = (tt, h)
 spelt_parts (F ∷ T) U [] h = absurd h
 spelt_parts (F ∷ T) U (v ∷ vs) h = let r = spelt_parts T U vs h.1 in ((h.0, r.0), r.1)
-
-pub Spelt-at : (T : List Field) (vs : List ℤ) (k : ℕ) (E : Field) (d : ℤ) → SpeltIn T vs → k < length T → Spelt (get_or T k E) (get_or vs k d)
-unfolding SpeltIn
-Spelt-at [] vs k E d h g = absurd (omega arith)
-Spelt-at (F ∷ T) [] k E d h g = absurd h
-Spelt-at (F ∷ T) (v ∷ vs) zero E d h g = h.0
-Spelt-at (F ∷ T) (v ∷ vs) (suc k) E d h g = Spelt-at T vs k E d h.1 (omega arith)
 
 -- Which values can stand in a line, by its kind.
 module _ (F : Field) where
@@ -100,8 +86,9 @@ numbers_above [] [] u h = refl
 numbers_above [] (v ∷ vs) u h = absurd h
 numbers_above (F ∷ T) [] u h = absurd h
 numbers_above (F ∷ T) (v ∷ vs) u h =
-    ap (λ (w : ℤ). w ∷ map (λ v. pos (nat_abs v)) vs) (sym (value_above F.kind v (and_left (unsigned F.kind) (all_unsigned T) u) h.0))
-    ∙ ap (λ (ws : List ℤ). v ∷ ws) (numbers_above T vs (and_right (unsigned F.kind) (all_unsigned T) u) h.1)
+    let plain = and_parts (unsigned F.kind) (all_unsigned T) u in
+    ap (λ (w : ℤ). w ∷ map (λ v. pos (nat_abs v)) vs) (sym (value_above F.kind v plain.0 h.0))
+    ∙ ap (λ (ws : List ℤ). v ∷ ws) (numbers_above T vs plain.1 h.1)
 
 -- how long a text can be
 
@@ -127,8 +114,3 @@ unfolding SpeltIn lines_text longest
 text_at_most [] vs h = omega arith
 text_at_most (F ∷ T) [] h = absurd h
 text_at_most (F ∷ T) (v ∷ vs) h = omega (arith, length-append (line_text F v) (lines_text T vs), line_at_most F v h.0, text_at_most T vs h.1)
-
-pub longest_join : (T U : List Field) → longest (T ++ U) ≡ longest T + longest U
-unfolding longest
-longest_join [] U = omega arith
-longest_join (F ∷ T) U = omega (arith, longest_join T U)

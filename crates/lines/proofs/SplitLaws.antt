@@ -7,11 +7,11 @@ use mathlib.Core.Path.{◌≡◌, refl, sym, ap, ◌∙◌, subst}
 use native.Mathlib.Omega.{arith}
 use borrow.Author.Tests.{eq-eqb, ne_eqb, eqb-true, eqb-false}
 use lib.Dec.{eqb}
-use lib.ListN.{length, get_or, take, drop, length-drop, drop_of_length-le}
-use lib.Seq.{drop-drop, drop-cons}
+use lib.ListN.{length, get_or, drop}
+use lib.Seq.{drop-cons}
 use Rattle.std.specs.Prelude.{Some, None, ◌==◌}
 use Rattle.std.specs.List.{position_from}
-use Rattle.lines.proofs.Tests.{by_test}
+use Rattle.questions.proofs.Laws.{by_test}
 use Rattle.lines.specs.Ascii.{newline}
 use Rattle.lines.specs.Splitting.{first_line, line_end, lengthened, split_lines, joined, newlines, unended, Whole, CutShort, LinesOf}
 
@@ -19,33 +19,28 @@ pub by_byte : {P : Type 0} (b : ℕ) → (b ≡ newline → P) → ((b ≡ newli
 by_byte {P} b p q = by_test (eqb b newline) (λ t. P) (λ e. p (eqb-true b newline e)) (λ e. q (eqb-false b newline e))
 
 -- The place behind the line that goes on at `at`.
-module _ (s : List ℕ) (at : ℕ) where
-  pub end_none : length s ≤ at → line_end s at ≡ at
+module _ (s : List ℕ) (at : ℕ) (inside : at < length s) where
+  first_line_lem : first_line (drop at s) ≡ cond (eqb (get_or s at 0) newline) (get_or s at 0 ∷ []) (get_or s at 0 ∷ first_line (drop (suc at) s))
   unfolding first_line
-  end_none h = let none = ap (λ (l : List ℕ). length (first_line l)) (drop_of_length-le s {i = at} h) in omega (arith, none)
+  first_line_lem = ap first_line (drop-cons s at 0 inside)
 
-  module _ (inside : at < length s) where
-    first_line_lem : first_line (drop at s) ≡ cond (eqb (get_or s at 0) newline) (get_or s at 0 ∷ []) (get_or s at 0 ∷ first_line (drop (suc at) s))
-    unfolding first_line
-    first_line_lem = ap first_line (drop-cons s at 0 inside)
+  pub end_here : get_or s at 0 ≡ newline → line_end s at ≡ at + 1
+  end_here e =
+      let one : first_line (drop at s) ≡ get_or s at 0 ∷ [] = first_line_lem ∙ rw (eq-eqb (get_or s at 0) newline e) in
+      omega (arith, ap length one)
 
-    pub end_here : get_or s at 0 ≡ newline → line_end s at ≡ at + 1
-    end_here e =
-        let one : first_line (drop at s) ≡ get_or s at 0 ∷ [] = first_line_lem ∙ rw (eq-eqb (get_or s at 0) newline e) in
-        omega (arith, ap length one)
+  pub end_more : (get_or s at 0 ≡ newline → ⊥) → line_end s at ≡ line_end s (at + 1)
+  end_more n =
+      let next : suc at ≡ at + 1 = omega arith in
+      let more : first_line (drop at s) ≡ get_or s at 0 ∷ first_line (drop (suc at) s) = first_line_lem ∙ rw (ne_eqb (get_or s at 0) newline n) in
+      omega (arith, ap length more, ap (λ (k : ℕ). length (first_line (drop k s))) next)
 
-    pub end_more : (get_or s at 0 ≡ newline → ⊥) → line_end s at ≡ line_end s (at + 1)
-    end_more n =
-        let next : suc at ≡ at + 1 = omega arith in
-        let more : first_line (drop at s) ≡ get_or s at 0 ∷ first_line (drop (suc at) s) = first_line_lem ∙ rw (ne_eqb (get_or s at 0) newline n) in
-        omega (arith, ap length more, ap (λ (k : ℕ). length (first_line (drop k s))) next)
-
-    -- a line has at least one byte
-    pub end_behind : at < line_end s at
-    end_behind =
-        by_byte (get_or s at 0)
-        (λ e. omega (arith, end_here e))
-        (λ n. omega (arith, end_more n))
+  -- a line has at least one byte
+  pub end_behind : at < line_end s at
+  end_behind =
+      by_byte (get_or s at 0)
+      (λ e. omega (arith, end_here e))
+      (λ n. omega (arith, end_more n))
 
 -- the first line by the place of its newline, where places count from i on
 pub line_found : (i k : ℕ) (s : List ℕ) → position_from (λ b. b == newline) i s ≡ Some k → i + length (first_line s) ≡ k + 1
@@ -73,6 +68,9 @@ line_unended i (b ∷ s) e =
     (λ h. let here : Some i ≡ None = sym (rw (eq-eqb b newline h)) ∙ e in absurd (let z : ◌≡◌ {A = ℕ} 0 1 = cc in omega arith))
     (λ n. let onward : position_from (λ b. b == newline) (i + 1) s ≡ None = sym (rw (ne_eqb b newline n)) ∙ e in
     rw (ne_eqb b newline n) (omega (arith, line_unended (i + 1) s onward)))
+
+-- how long the first line is, with a newline or without
+pub ruleset first_lengths = (line_found, line_unended, first_line_most)
 
 -- By the first byte: it is a newline, or not.
 module _ (b : ℕ) (s : List ℕ) where
@@ -171,21 +169,6 @@ split_next (b ∷ s) h =
 -- some bytes have a line
 pub split_some : (s : List ℕ) → 0 < length s → 0 < length (split_lines s)
 split_some s h = omega (arith, ap length (split_next s h))
-
--- the line that goes on at a place, and those behind it
-pub split_at : (s : List ℕ) (at : ℕ) → at < length s → split_lines (drop at s) ≡ first_line (drop at s) ∷ split_lines (drop (line_end s at) s)
-split_at s at h =
-    split_next (drop at s) (omega (arith, length-drop at s))
-    ∙ ap (λ (l : List ℕ). first_line (drop at s) ∷ split_lines l) (drop-drop (length (first_line (drop at s))) at s)
-
--- the first line is a part of the bytes
-pub first_taken : (s : List ℕ) → first_line s ≡ take (length (first_line s)) s
-unfolding first_line
-first_taken [] = refl
-first_taken (b ∷ s) =
-    by_byte b
-    (λ e. first_here b s e ∙ ap (λ (l : List ℕ). take (length l) (b ∷ s)) (sym (first_here b s e)))
-    (λ n. first_onward b s n ∙ ap (λ (l : List ℕ). b ∷ l) (first_taken s) ∙ ap (λ (l : List ℕ). take (length l) (b ∷ s)) (sym (first_onward b s n)))
 
 lengthened_count : (b : ℕ) (ls : List (List ℕ)) → 0 < length ls → length (lengthened b ls) ≡ length ls
 unfolding lengthened

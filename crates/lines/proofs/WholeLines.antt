@@ -8,7 +8,8 @@ use borrow.Author.Tests.{eqb-true, ltb-true, ltb-false}
 use lib.Dec.{eqb, ltb}
 use lib.IntN.{ℤ, pos, negsuc, nat_abs}
 use lib.ListN.{length, length-append}
-use Rattle.lines.proofs.Tests.{and_left, and_right, by_test}
+use Rattle.std.proofs.lemmas.Bool.{and_parts}
+use Rattle.questions.proofs.Laws.{by_test}
 use Rattle.lines.specs.declared.keys.Kind.{Kind}
 use Rattle.lines.specs.declared.keys.Kind.TheVariants.{Letter, Number, Signed}
 use Rattle.lines.specs.Ascii.{newline, minus, digit0}
@@ -93,8 +94,8 @@ text_newlines (F ∷ T) (v ∷ vs) u h =
     newlines-append (line_text F v) (lines_text T vs)
     ∙ omega (
       arith,
-      line_newlines F v (and_left (unbroken F) (all_unbroken T) u),
-      text_newlines T vs (and_right (unbroken F) (all_unbroken T) u) h.1,
+      line_newlines F v (and_parts (unbroken F) (all_unbroken T) u).0,
+      text_newlines T vs (and_parts (unbroken F) (all_unbroken T) u).1 h.1,
     )
 
 -- nothing stands behind the last

@@ -1,7 +1,18 @@
 -- What the code's answers stand for.
-use Rattle.std.specs.Prelude.{List, ℤ, Result, Ok, Err}
-use Rattle.lines.specs.Reading.{Reading, values, bad_line}
+use Rattle.std.specs.Prelude.{ℕ, List, ℤ, pos, Option, None, Some, Result, Ok, Err}
+use Rattle.std.specs.Borrow.{Bor}
+use Rattle.lines.specs.Reading.{Front, got, bad, Reading, values, bad_line}
 use Rattle.lines.specs.declared.reading.BadLine.{BadLine}
+
+-- what a reader finds: a value, and the bytes behind its newline
+abbrev pub found : Option (ℤ × Bor (List ℕ)) → Front
+found None = bad
+found (Some p) = got p.0 p.1.now
+
+-- the same, where the value is a number
+abbrev pub found_number : Option (ℕ × Bor (List ℕ)) → Front
+found_number None = bad
+found_number (Some p) = got (pos p.0) p.1.now
 
 -- what reading a table answers: its values, or the first bad line
 abbrev pub reading : Result (List ℤ) BadLine → Reading

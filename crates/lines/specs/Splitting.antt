@@ -1,5 +1,5 @@
 -- Bytes split into their lines: each with its newline, the last perhaps without.
-use Rattle.std.specs.Prelude.{ℕ, suc, ◌+◌, cond, List, [], ◌∷◌, ◌++◌, ◌⊎◌, ◌≡◌, eqb, length, drop}
+use Rattle.std.specs.Prelude.{ℕ, suc, ◌+◌, cond, List, [], ◌∷◌, ◌++◌, ◌⊎◌, ◌≡◌, eqb, length, drop, map}
 use Rattle.lines.specs.Ascii.{newline}
 
 -- the bytes up to the first newline, with it; all bytes where there is none
@@ -24,6 +24,10 @@ split_lines (b ∷ s) = cond (eqb b newline) ((b ∷ []) ∷ split_lines s) (len
 unfoldable pub joined : {A : Type 0} → List (List A) → List A
 joined [] = []
 joined (l ∷ ls) = l ++ joined ls
+
+-- texts one behind the other
+abbrev pub all_texts : {T : Type 0} → (T → List ℕ) → List T → List ℕ
+all_texts bytes ts = joined (map bytes ts)
 
 -- how many newlines s has
 unfoldable pub newlines : List ℕ → ℕ

@@ -7,6 +7,7 @@ use crate::texts::Text;
 use itoa::{Buffer, write_digits};
 
 // How many digits n has.
+#[tactic(auto, using(crate::proofs::DecimalLaws::widths))]
 pub fn width(n: u64) -> usize
     ensures value { result ≡ length (decimal n) }
     ensures upper_bound { result ≤ 20 }
@@ -84,15 +85,15 @@ impl Text for Fixed {
     }
 }
 
-// The digits before the last, and the last behind them.
-#[tactic(auto, unfolding(crate::specs::Decimal::fixed_text, questions::specs::Buffers::over))]
+// The digits from the last to the first.
+#[tactic(auto, using(crate::proofs::DecimalLaws::fixed_nothing))]
 fn put_digits(out: &mut [u8], n: u64, digits: usize)
     requires { digits ≤ length out.old }
     ensures { out.new ≡ over (fixed_text digits n) out.old }
 {
-    if digits > 0 {
-        let last = digits - 1;
-        put_digits(out, n / 10, last);
-        out[last] = b'0' + (n % 10) as u8;
+    let mut left = n;
+    for at in (0..digits).rev() {
+        out[at] = b'0' + (left % 10) as u8;
+        left /= 10;
     }
 }

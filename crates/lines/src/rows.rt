@@ -1,5 +1,5 @@
 // Numbers in a row: in decimal, one blank between, and a newline behind the last.
-ghost use Rattle.std.specs.Prelude.{◌≡◌, [], ◌∷◌, ◌++◌, ◌+◌, ◌*◌, ◌≤◌, ◌<◌, length, drop};
+ghost use Rattle.std.specs.Prelude.{◌≡◌, ◌<◌};
 ghost use Rattle.lines.specs.Decimal.{row_ending, row_text};
 ghost use Rattle.lines.specs.Runs.{runs, rows_text};
 
@@ -37,9 +37,10 @@ impl Text for Row<'_> {
     #[tactic(auto, unfolding(crate::specs::Decimal::row_text, questions::specs::Buffers::over))]
     fn put(&self, out: &mut [u8]) -> usize {
         let mut at = 0;
-        for i in 0..self.0.len() {
-            let number = Behind(self.0[i], ending(&self.0[i + 1..]));
-            at = texts::put_behind(out, at, &number);
+        let mut left = self.0;
+        while let Some((number, behind)) = left.split_first() {
+            at = texts::put_behind(out, at, &Behind(*number, ending(behind)));
+            left = behind;
         }
         at
     }

@@ -14,14 +14,12 @@ fn first_newline(s: &[u8]) -> Option<usize>
 }
 
 // How many bytes the first line has.
+#[tactic(auto, using(crate::proofs::SplitLaws::first_lengths))]
 fn first_length(s: &[u8]) -> usize
     ensures value { result ≡ length (first_line s.now) }
     ensures upper_bound { result ≤ length s.now }
 {
-    match first_newline(s) {
-        Some(before) => before + 1,
-        None => s.len(),
-    }
+    first_newline(s).map_or(s.len(), |before| before + 1)
 }
 
 // The place behind the next newline at or behind `at`; the end of s where there is none.
@@ -34,6 +32,7 @@ pub fn line_end(s: &[u8], at: usize) -> usize
 }
 
 // How many newlines s has.
+#[tactic(auto, using(crate::proofs::CountLaws::newlines_counted))]
 pub fn newline_count(s: &[u8]) -> usize
     ensures value { result ≡ newlines s.now }
     ensures upper_bound { result ≤ length s.now }
@@ -45,8 +44,5 @@ pub fn newline_count(s: &[u8]) -> usize
 pub fn is_unended(s: &[u8]) -> bool
     ensures { result ≡ (unended s.now == 1) }
 {
-    match s.last() {
-        Some(b) => *b != NEWLINE,
-        None => false,
-    }
+    s.last().is_some_and(|b| *b != NEWLINE)
 }

@@ -3,7 +3,9 @@
 ghost use Rattle.std.specs.Prelude.{◌≡◌, ℕ, List, [], ◌∷◌, ◌++◌, ◌+◌, ◌^◌, ◌<◌, ◌≤◌, length, take, drop};
 ghost use Rattle.questions.specs.Buffers.{over};
 ghost use Rattle.lines.specs.Fitting.{fitted, buffer_fitted};
+ghost use Rattle.lines.specs.Splitting.{all_texts};
 
+// What can be written: its bytes, how many there are, and how they get into a buffer.
 pub trait Text {
     ghost bytes: { Self → List ℕ };
 
@@ -71,7 +73,7 @@ impl<A: Text, B: Text> Text for Behind<A, B> {
 }
 
 // Writes the text at a place of out, and answers the place behind it.
-#[tactic(auto, unfolding(questions::specs::Buffers::over))]
+#[tactic(auto, using(std::proofs::lemmas::Slice::overwrites), unfolding(questions::specs::Buffers::over))]
 pub fn put_behind<T: Text>(out: &mut [u8], at: usize, text: &T) -> usize
     requires { at + length (T.bytes text.now) ≤ length out.old }
     ensures place { result ≡ at + length (T.bytes text.now) }
@@ -80,6 +82,29 @@ pub fn put_behind<T: Text>(out: &mut [u8], at: usize, text: &T) -> usize
     ensures room { length out.new ≡ length out.old }
 {
     at + text.put(&mut out[at..])
+}
+
+// Texts one behind the other.
+impl<T: Text> Text for &[T] {
+    ghost bytes = { λ s. all_texts T.bytes s.now };
+
+    #[tactic(auto, unfolding(crate::specs::Splitting::joined))]
+    fn length(&self) -> usize {
+        let mut n = 0;
+        for text in *self {
+            n += text.length();
+        }
+        n
+    }
+
+    #[tactic(auto, unfolding(crate::specs::Splitting::joined, questions::specs::Buffers::over))]
+    fn put(&self, out: &mut [u8]) -> usize {
+        let mut at = 0;
+        for text in *self {
+            at = put_behind(out, at, text);
+        }
+        at
+    }
 }
 
 // A text that does not fit its buffer: the length that is needed.

@@ -1,5 +1,5 @@
 // Lines key=value as texts.
-ghost use Rattle.std.specs.Prelude.{◌≡◌, ◌+◌, ◌≤◌, length, map};
+ghost use Rattle.std.specs.Prelude.{◌≡◌, map};
 ghost use Rattle.lines.specs.Fields.{field};
 ghost use Rattle.lines.specs.Texts.{letter_of, value_text, line_text, lines_text};
 

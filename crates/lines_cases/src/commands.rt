@@ -37,25 +37,21 @@ fn read(rt: &impl Print, case: &[u8]) -> io::Result<()> {
 
 // The number of eight bytes, or of as many as there are.
 fn number(bytes: &[u8]) -> u64 {
-    let mut n = 0u64;
-    for byte in &bytes[..bytes.len().min(8)] {
-        n = n.wrapping_mul(256).wrapping_add(*byte as u64);
-    }
-    n
+    bytes.iter().take(8).fold(0u64, |n, byte| {
+        n.wrapping_mul(256).wrapping_add(u64::from(*byte))
+    })
 }
 
 // A size with its sign.
 fn signed(sign: u8, size: u64) -> i128
     ensures { unsigned_abs result < 2 ^ 64 }
 {
-    if sign == 1 {
-        -(size as i128)
-    } else {
-        size as i128
-    }
+    let size = i128::from(size);
+    if sign == 1 { -size } else { size }
 }
 
 // A line from its row, its sign and its size.
+#[tactic(auto, using(lines::proofs::Laws::line_most))]
 fn write(rt: &impl Print, case: &[u8]) -> io::Result<()> {
     let [row, sign, size @ ..] = case else {
         return Ok(());
@@ -69,6 +65,7 @@ fn write(rt: &impl Print, case: &[u8]) -> io::Result<()> {
     }
 }
 
+#[tactic(auto, using(lines::proofs::Laws::row_most))]
 fn show_row(rt: &impl Print, numbers: &[u64]) -> io::Result<()>
     requires { length numbers.now ≤ 8 }
 {
@@ -78,11 +75,10 @@ fn show_row(rt: &impl Print, numbers: &[u64]) -> io::Result<()>
 // The numbers of the case in a row, at most eight.
 fn write_row(rt: &impl Print, case: &[u8]) -> io::Result<()> {
     let mut numbers = [0; 8];
-    let count = (case.len() / 8).min(8);
-    for i in 0..count {
-        numbers[i] = number(&case[i * 8..]);
+    for (place, bytes) in numbers.iter_mut().zip(case.chunks_exact(8)) {
+        *place = number(bytes);
     }
-    show_row(rt, &numbers[..count])
+    show_row(rt, &numbers[..(case.len() / 8).min(8)])
 }
 
 // So many digits of a number.
@@ -113,6 +109,7 @@ fn read_fixed(rt: &impl Print, case: &[u8]) -> io::Result<()> {
 }
 
 // The place behind each line.
+#[tactic(auto, using(lines::proofs::Laws::end_behind))]
 fn split(rt: &impl Print, case: &[u8]) -> io::Result<()> {
     let mut at = 0;
     while at < case.len() {
@@ -129,9 +126,7 @@ pub fn run(rt: &impl Print, line: &str) -> io::Result<()> {
     };
     let mut bytes = [0; 512];
     let n = (digits.len() / 2).min(512);
-    if hex::decode_to_slice(&digits[..2 * n], &mut bytes[..n]).is_err() {
-        return Err(ErrorKind::InvalidData.into());
-    }
+    hex::decode_to_slice(&digits[..2 * n], &mut bytes[..n]).map_err(|_| ErrorKind::InvalidData)?;
     let case = &bytes[..n];
     match letter {
         b'r' => read(rt, case),

@@ -45,12 +45,12 @@ pub fn rows() -> &'static [Key<'static>]
 }
 
 // Reads the lines, behind which nothing may stand.
+#[tactic(auto, using(crate::proofs::TableLengths::read_text))]
 pub fn read_lines(s: &[u8]) -> Result<[i128; COUNT], BadLine>
     ensures value { reading result ≡ read_lines table s.now }
     ensures short { IfOk result (λ values. length (lines_text table values) ≤ 60) }
 {
-    let values = reading::table(s, rows())?;
-    Ok(values)
+    reading::table(s, rows())
 }
 
 // The lines with these values.

@@ -1,6 +1,6 @@
 -- The table's entries, place by place.
 use Prim.Native.Nat.{ℕ, zero, suc, ◌+◌, ◌<◌}
-use mathlib.Core.List.{List, [], ◌∷◌, ◌++◌, map}
+use mathlib.Core.List.{List, map}
 use mathlib.Core.Path.{◌≡◌, sym, ap, ◌∙◌}
 use native.Mathlib.Nat.{add-zero, zero-add, add-suc, suc-add, not-suc-le-zero}
 use native.Mathlib.Omega.{arith}
@@ -9,36 +9,30 @@ use lib.ListN.{get_or}
 use Rattle.pair.specs.Pairs.{◌to◌}
 use Rattle.pair.specs.Enclosure.{Inside}
 use Rattle.section.proofs.Laws.{k_box}
-use Rattle.lip_table.specs.declared.entries.Columns.{Columns}
+use Rattle.lip_table.specs.declared.entries.Entry.{Entry}
 use Rattle.lip_table.specs.Tables.{entry_count, ratio_of, entry, lower, upper, places_from, places}
-use Rattle.lip_table.specs.Forms.{table_columns}
+use Rattle.lip_table.specs.Forms.{table_entry, table_entries}
 
--- a column's number at place i is that of entry i
-from : (f : ℕ → ℕ) (j n i : ℕ) → i < n → get_or (map f (places_from j n)) i 0 ≡ f (j + i)
+-- the entry at place i is that of the ratio i
+from : {A : Type 0} (f : ℕ → A) (d : A) (j n i : ℕ) → i < n → get_or (map f (places_from j n)) i d ≡ f (j + i)
 unfolding places_from
-from f j zero i h = absurd (not-suc-le-zero h)
-from f j (suc n) zero h = ap f (sym (add-zero j))
-from f j (suc n) (suc i) h = from f (suc j) n i (omega arith) ∙ ap f (suc-add j i ∙ sym (add-suc j i))
+from f d j zero i h = absurd (not-suc-le-zero h)
+from f d j (suc n) zero h = ap f (sym (add-zero j))
+from f d j (suc n) (suc i) h = from f d (suc j) n i (omega arith) ∙ ap f (suc-add j i ∙ sym (add-suc j i))
 
-column_at : (f : ℕ → ℕ) (i : ℕ) → i < entry_count → get_or (map f places) i 0 ≡ f i
-unfolding places
-column_at f i h = from f 0 entry_count i h ∙ ap f (zero-add i)
+-- the rule of the table's entries at each place
+module _ {t : List Entry} (d : Entry) (e : t ≡ table_entries) (i : ℕ) (h : i < entry_count) where
+  pub entry_at : get_or t i d ≡ table_entry i
+  unfolding table_entries places
+  entry_at = ap (λ (u : List Entry). get_or u i d) e ∙ from table_entry d 0 entry_count i h ∙ ap table_entry (zero-add i)
 
--- the rule of the table's columns at each entry
-module _ {t : Columns} (e : t ≡ table_columns) (i : ℕ) (h : i < entry_count) where
-  pub lower_at : get_or t.lower i 0 ≡ lower i
-  unfolding table_columns
-  lower_at = ap (λ (u : Columns). get_or u.lower i 0) e ∙ column_at lower i h
+  pub lower_at : (get_or t i d).0 ≡ lower i
+  unfolding table_entry
+  lower_at = ap (λ (x : Entry). x.0) entry_at
 
-  pub upper_at : get_or t.upper i 0 ≡ upper i
-  unfolding table_columns
-  upper_at = ap (λ (u : Columns). get_or u.upper i 0) e ∙ column_at upper i h
-
--- one place more
-pub one_more : (j n : ℕ) → places_from j (suc n) ≡ places_from j n ++ ((j + n) ∷ [])
-unfolding places_from
-one_more j zero = ap (λ (i : ℕ). i ∷ []) (sym (add-zero j))
-one_more j (suc n) = ap (λ (l : List ℕ). j ∷ l) (one_more (suc j) n ∙ ap (λ (i : ℕ). places_from (suc j) n ++ (i ∷ [])) (suc-add j n ∙ sym (add-suc j n)))
+  pub upper_at : (get_or t i d).1 ≡ upper i
+  unfolding table_entry
+  upper_at = ap (λ (x : Entry). x.1) entry_at
 
 -- each entry is from 0.5 to 0.83
 pub entry_box : (i : ℕ) → i < entry_count → Inside 1 (entry i) (500000 to 830000)

@@ -14,7 +14,7 @@ use Rattle.lip_table.specs.Tables.{entry_count, ratio_of, entry, lower, upper, e
 use Rattle.lip_table.specs.Outcome.{coefficient_at}
 use Rattle.lip_table.specs.Promises.{InRange, ends_of, LookedUp, AtOrBelow, AtOrAbove}
 use Rattle.lip_table.proofs.Told.{below_near, above_near, told_inside, told_outside}
--- each number of the library's columns is k at its ratio
+-- each end of the library's entries is k's at its ratio
 pub use Rattle.lip_table.proofs.Places.{lower_at, upper_at}
 -- how long the table's text is; it is written where there is room, and else refused
 pub use Rattle.lip_table.proofs.TableTexts.{table_length_lem}

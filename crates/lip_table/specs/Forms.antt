@@ -1,7 +1,10 @@
 -- The table in the form in which the code holds it.
-use Rattle.std.specs.Prelude.{map}
-use Rattle.lip_table.specs.declared.entries.Columns.{Columns}
+use Rattle.std.specs.Prelude.{ℕ, List, map}
+use Rattle.lip_table.specs.declared.entries.Entry.{Entry}
 use Rattle.lip_table.specs.Tables.{places, lower, upper}
 
-unfoldable pub table_columns : Columns
-table_columns = record { lower = map lower places; upper = map upper places }
+unfoldable pub table_entry : ℕ → Entry
+table_entry i = record { 0 = lower i; 1 = upper i }
+
+unfoldable pub table_entries : List Entry
+table_entries = map table_entry places

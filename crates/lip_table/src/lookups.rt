@@ -2,6 +2,7 @@
 ghost use Rattle.std.specs.Prelude.{◌≡◌};
 ghost use Rattle.lip_table.specs.Outcome.{told_with, found_ends, coefficient_at};
 
+use crate::entries::Entry;
 use crate::{Coefficient, LEAST_RATIO, LipRefusal, MOST_RATIO, STEP, entries};
 use questions::Answer;
 use questions::answers::{Reason, answer};
@@ -27,19 +28,20 @@ fn ends(ratio: u64) -> Result<(u64, u64), LipRefusal>
     ensures { result ≡ found_ends ratio }
 {
     ask(
-        LEAST_RATIO <= ratio && ratio <= MOST_RATIO,
+        (LEAST_RATIO..=MOST_RATIO).contains(&ratio),
         LipRefusal::Ratio,
     )?;
     let past = ratio - LEAST_RATIO;
     let below = past / STEP;
     let above = past.div_ceil(STEP);
     let table = entries::table();
-    let lower = table.lower[below as usize];
-    let upper = table.upper[above as usize];
-    Ok((lower as u64, upper as u64))
+    let Entry(lower, _) = table[below as usize];
+    let Entry(_, upper) = table[above as usize];
+    Ok((lower, upper))
 }
 
 // The same as an answer, whose ends are 0 where the ratio is refused.
+#[tactic(auto, using(crate::proofs::Told::told_of_ends, crate::proofs::Told::told_of_refusal))]
 pub fn coefficient(ratio: u64) -> Coefficient
     ensures { result ≡ coefficient_at ratio }
 {

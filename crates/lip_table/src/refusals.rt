@@ -1,5 +1,4 @@
 // What is answered where there is no coefficient or no table.
-ghost use Rattle.std.specs.Prelude.{◌≡◌};
 ghost use Rattle.lip_table.specs.Outcome.{lip_answer, lip_laws};
 
 use crate::LipRefusal;

@@ -10,7 +10,7 @@ use Rattle.pair.specs.Pairs.{◌to◌, exact, ratio, plus, minus, times, over, r
 use Rattle.pair.specs.Fits.{word, words, ordered, ratio_fits, plus_fits, minus_fits, times_fits, over_fits, exact_ratio, times_ratio_fits, over_ratio_fits, root_fits, cube_root_fits}
 use Rattle.pair.specs.Enclosure.{Finer, Inside, Ordered, Positive, AtLeast, AtMost}
 use Rattle.pair.specs.declared.Pair.{Pair}
-use Rattle.pair.proofs.Tests.{and_both}
+use Rattle.std.proofs.lemmas.Bool.{and_from}
 use Rattle.pair.proofs.Quotients.{ceil_le, le_floor}
 use Rattle.pair.proofs.Fitting.{ratio_out, over_ratio_out}
 use Rattle.pair.proofs.Powers.{pow_two, pow_three, le_down, up_le}
@@ -135,7 +135,7 @@ smaller_box i j = smaller-Inside i j
 
 words_fit : {m : ℕ} {P p : Pair} → Inside m P p → p.hi * m < 2 ^ 64 → words P ≡ true
 unfolding words word
-words_fit i k = and_both (lt-ltb _ _ (lt_of_le_of_lt (le_trans i.mid i.high) k)) (lt-ltb _ _ (lt_of_le_of_lt i.high k))
+words_fit i k = and_from _ _ (lt-ltb _ _ (lt_of_le_of_lt (le_trans i.mid i.high) k)) (lt-ltb _ _ (lt_of_le_of_lt i.high k))
 
 pub plus_fits_lem : (P Q : Pair) {m : ℕ} {r : Pair} → Inside m (plus P Q) r → r.hi * m < 2 ^ 64 → plus_fits P Q ≡ true
 unfolding plus_fits
@@ -145,31 +145,31 @@ pub minus_fits_lem : {m : ℕ} {P p Q q : Pair} → Inside m P p → Inside m Q 
 unfolding minus_fits
 minus_fits_lem {m} {P} {p} {Q} {q} i j e =
     let apart : Q.hi ≤ P.lo = le_trans j.high (le_trans (mul-le-mul_right m e) i.low) in
-    and_both (le-leb Q.hi P.lo apart) (le-leb Q.lo P.hi (omega (arith, i.mid, j.mid)))
+    and_from _ _ (le-leb Q.hi P.lo apart) (le-leb Q.lo P.hi (omega (arith, i.mid, j.mid)))
 
 pub times_fits_lem : (s : ℕ) (P Q : Pair) {m : ℕ} {r : Pair} → 0 < s → Inside m (times s P Q) r → r.hi * m < 2 ^ 64 → times_fits s P Q ≡ true
 unfolding times_fits
-times_fits_lem s P Q h i k = and_both (lt-ltb _ _ h) (words_fit i k)
+times_fits_lem s P Q h i k = and_from _ _ (lt-ltb _ _ h) (words_fit i k)
 
 pub over_fits_lem : (s : ℕ) (P Q : Pair) {m : ℕ} {r : Pair} → Positive Q → Ordered Q → Inside m (over s P Q) r → r.hi * m < 2 ^ 64 → over_fits s P Q ≡ true
 unfolding over_fits
-over_fits_lem s P Q z o i k = and_both (and_both (lt-ltb _ _ z.low) (lt-ltb _ _ (le_trans z.low o.ends))) (words_fit i k)
+over_fits_lem s P Q z o i k = and_from _ _ (and_from _ _ (lt-ltb _ _ z.low) (lt-ltb _ _ (le_trans z.low o.ends))) (words_fit i k)
 
 pub ratio_fits_lem : (s a b : ℕ) → 0 < b → a * s < 2 ^ 64 → ratio_fits s a b ≡ true
 unfolding ratio_fits word
-ratio_fits_lem s a b h k = and_both (lt-ltb _ _ h) (lt-ltb _ _ k)
+ratio_fits_lem s a b h k = and_from _ _ (lt-ltb _ _ h) (lt-ltb _ _ k)
 
 pub exact_ratio_lem : (s a b : ℕ) → 0 < s → 0 < b → a * s % b ≡ 0 → exact_ratio s a b ≡ true
 unfolding exact_ratio
-exact_ratio_lem s a b h k e = and_both (and_both (lt-ltb _ _ h) (lt-ltb _ _ k)) (eq-eqb _ _ e)
+exact_ratio_lem s a b h k e = and_from _ _ (and_from _ _ (lt-ltb _ _ h) (lt-ltb _ _ k)) (eq-eqb _ _ e)
 
 pub times_ratio_fits_lem : (s : ℕ) (p : Pair) (a b : ℕ) → exact_ratio s a b ≡ true → times_fits s p (ratio s a b) ≡ true → times_ratio_fits s p a b ≡ true
 unfolding times_ratio_fits
-times_ratio_fits_lem s p a b e h = and_both e h
+times_ratio_fits_lem s p a b e h = and_from _ _ e h
 
 pub over_ratio_fits_lem : (s : ℕ) (p : Pair) (a b : ℕ) → exact_ratio s a b ≡ true → over_fits s p (ratio s a b) ≡ true → over_ratio_fits s p a b ≡ true
 unfolding over_ratio_fits
-over_ratio_fits_lem s p a b e h = and_both e h
+over_ratio_fits_lem s p a b e h = and_from _ _ e h
 
 -- where dividing by a ÷ b and then by c has room, so has dividing once by c × a ÷ b
 pub over_twice_fits : (s : ℕ) (p : Pair) (a b c : ℕ) → over_ratio_fits s p a b ≡ true → over_ratio_fits s (over s p (ratio s a b)) c 1 ≡ true → over_ratio_fits s p (c * a) b ≡ true
@@ -183,13 +183,13 @@ over_twice_fits s p a b c e h =
     let exactly = exact_ratio_lem s (c * a) b whole.0 whole.1 (rw (mul_assoc c a s) (mod-eq-zero_of_dvd b (dvd-mul_left_of_dvd b (dvd_of_mod-eq-zero b whole.2) c))) in
     let some = ratio-Positive s (c * a) b (mul-pos again.low⁺ a⁺) exactly in
     over_ratio_fits_lem s p (c * a) b exactly
-    (and_both (and_both (lt-ltb _ _ some.low) (lt-ltb _ _ (le_trans some.low (ratio-Ordered s (c * a) b).ends)))
-    (rw same (and_both (lt-ltb _ _ again.fits.low) (lt-ltb _ _ again.fits.high))))
+    (and_from _ _ (and_from _ _ (lt-ltb _ _ some.low) (lt-ltb _ _ (le_trans some.low (ratio-Ordered s (c * a) b).ends)))
+    (rw same (and_from _ _ (lt-ltb _ _ again.fits.low) (lt-ltb _ _ again.fits.high))))
 
 pub root_fits_lem : (s : ℕ) {m : ℕ} {P p : Pair} → s % 64 ≡ 0 → Inside m P p → p.hi * m * s < 2 ^ 70 → root_fits s P ≡ true
 unfolding root_fits ordered
-root_fits_lem s e i k = and_both (and_both (le-leb _ _ i.mid) (eq-eqb _ _ e)) (lt-ltb _ _ (lt_of_le_of_lt (mul-le-mul_right s i.high) k))
+root_fits_lem s e i k = and_from _ _ (and_from _ _ (le-leb _ _ i.mid) (eq-eqb _ _ e)) (lt-ltb _ _ (lt_of_le_of_lt (mul-le-mul_right s i.high) k))
 
 pub cube_root_fits_lem : (s : ℕ) {m : ℕ} {P p : Pair} → s % 64 ≡ 0 → Inside m P p → p.hi * m * (s * s) < 2 ^ 76 → cube_root_fits s P ≡ true
 unfolding cube_root_fits ordered
-cube_root_fits_lem s e i k = and_both (and_both (le-leb _ _ i.mid) (eq-eqb _ _ e)) (lt-ltb _ _ (lt_of_le_of_lt (mul-le-mul_right (s * s) i.high) k))
+cube_root_fits_lem s e i k = and_from _ _ (and_from _ _ (le-leb _ _ i.mid) (eq-eqb _ _ e)) (lt-ltb _ _ (lt_of_le_of_lt (mul-le-mul_right (s * s) i.high) k))

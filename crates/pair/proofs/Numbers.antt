@@ -1,5 +1,5 @@
 -- What crates above may cite of whole numbers, integers and tests, apart from pairs.
-pub use Rattle.pair.proofs.Tests.{and_both, and_left, and_right, by_test}
+pub use Rattle.pair.proofs.Tests.{by_test}
 pub use Rattle.pair.proofs.Quotients.{ceil_le, over_more, over_most, parts_fit, cross_down, cross_mid, cross_up, le_ceil, min_down, min_up, pos_left, sub-mul}
 pub use Rattle.pair.proofs.Powers.{pow_three}
 pub use Rattle.pair.proofs.IntegerParts.{neg_size, plus_size}

@@ -3,17 +3,14 @@
 use mathlib.Core.Path.{◌≡◌, refl, ap, ◌∙◌, subst}
 use mathlib.Core.Bool.{Bool, true, false, cond}
 use Prim.Native.Nat.{ℕ, zero, suc, ◌+◌, ◌*◌, ◌/◌, ◌^◌, ◌≤◌, ◌<◌}
-use native.Mathlib.Nat.{le_refl, le_antisymm, le_trans, le_of_lt, lt_of_lt_of_le, lt_of_le_of_lt, le_of_suc-le-suc, lt_of_not-le, not-le_of_lt, mul-le-mul_left, mul-le-mul_right, mul_comm, mul_assoc, mul_left_comm, mul-zero, one-mul, pow-zero, pow-suc, pow-le-pow_left, pow-le-pow_right, one-le-pow, pow-lt-pow_left, suc-ne-zero, mul-div-le, lt-mul-div-succ, div-lt_self}
+use native.Mathlib.Nat.{le_refl, le_antisymm, le_trans, le_of_lt, lt_of_lt_of_le, lt_of_le_of_lt, le_of_suc-le-suc, lt_of_not-le, not-le_of_lt, mul-le-mul_left, mul-le-mul_right, mul-zero, one-mul, pow-zero, pow-suc, pow-le-pow_left, pow-le-pow_right, one-le-pow, pow-lt-pow_left, suc-ne-zero, mul-div-le, lt-mul-div-succ, div-lt_self}
 use native.Mathlib.Numerals.{add-one}
 use native.Mathlib.Omega.{arith}
+use Rattle.std.proofs.lemmas.Nat.{mul-pow}
 use lib.Dec.{leb}
 use lib.Pow.{pow_pos}
 use borrow.Author.Tests.{leb-true, leb-false}
 use Rattle.pair.specs.Rounding.{next_root, root_in, root_down, root_up}
-
-pub mul-pow : (a b e : ℕ) → (a * b) ^ e ≡ a ^ e * b ^ e
-mul-pow a b zero = simp pow-zero
-mul-pow a b (suc e) = simp (pow-suc, mul-pow a b e, mul_assoc, mul_comm, mul_left_comm)
 
 pub pow-one : (r : ℕ) → r ^ 1 ≡ r
 pow-one r = pow-suc r 0 ∙ cc (pow-zero r, one-mul r)

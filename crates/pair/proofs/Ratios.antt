@@ -5,13 +5,15 @@ use Prim.Native.Nat.{ℕ, ◌*◌, ◌/◌, ◌%◌, ◌<◌}
 use native.Mathlib.Nat.{div-add-mod', div-div-eq-div-mul, mul_comm, mul-div_cancel, mul-pos}
 use native.Mathlib.Omega.{arith}
 use lib.Dec.{lit<}
+use borrow.Author.Tests.{lt-ltb}
 use Rattle.pair.specs.Rounding.{ceil_div}
 use Rattle.pair.specs.Pairs.{◌to◌, exact, ratio, times, over}
-use Rattle.pair.specs.Fits.{times_ratio_fits, over_ratio_fits}
+use Rattle.pair.specs.Fits.{word, words, over_fits, times_ratio_fits, over_ratio_fits}
 use Rattle.pair.specs.declared.Pair.{Pair}
 use Rattle.pair.proofs.Quotients.{pos_left, same_floor, same_ceil, ceil_twice}
 use Rattle.pair.proofs.Fitting.{Words, ratio_out, times_out, over_out, times_ratio_out, over_ratio_out}
-use Rattle.pair.proofs.Outward.{Outward}
+use Rattle.pair.proofs.Outward.{Outward, floor_asked, ceil_asked}
+use Rattle.std.proofs.lemmas.Bool.{and_from}
 
 -- the units of an exact value
 pub units : (s a b : ℕ) → a * s % b ≡ 0 → a * s / b * b ≡ a * s
@@ -57,6 +59,29 @@ over_by_ratio s p a b e =
     let small = over_out s p _ fit.1 in
     let a⁺ : 0 < a = pos_left a s (omega (arith, mul-pos small.0 whole.1)) in
     same_outward b a a⁺ (over_same s a b _ p u a⁺ small.0) small.2
+
+-- what is asked of a division by q, which is d, at the scale n, and that it gives r
+as_over : {p q r : Pair} (n d : ℕ) → q ≡ exact d → Outward p n d n d r → (over_fits n p q ≡ true) × (over n p q ≡ r)
+unfolding over_fits words word over exact
+as_over n d e o =
+    let low = floor_asked o in
+    let high = ceil_asked o in
+    let some = lt-ltb _ _ low.0 in
+    rw e (and_from _ _ (and_from _ _ some some) (and_from _ _ (lt-ltb _ _ low.1) (lt-ltb _ _ high.1)), λ i. record { lo = o.low i; hi = o.high i })
+
+module _ (s : ℕ) (p : Pair) {q : Pair} (a b : ℕ) (e : times_ratio_fits s p a b ≡ true) (d : q ≡ exact b) where
+  pub times_asked : over_fits a p q ≡ true
+  times_asked = (as_over a b d (times_by_ratio s p a b e)).0
+
+  pub times_given : {x : Pair} → x ≡ over a p q → x ≡ times s p (ratio s a b)
+  times_given f = f ∙ (as_over a b d (times_by_ratio s p a b e)).1
+
+module _ (s : ℕ) (p : Pair) {q : Pair} (a b : ℕ) (e : over_ratio_fits s p a b ≡ true) (d : q ≡ exact a) where
+  pub over_asked : over_fits b p q ≡ true
+  over_asked = (as_over b a d (over_by_ratio s p a b e)).0
+
+  pub over_given : {x : Pair} → x ≡ over b p q → x ≡ over s p (ratio s a b)
+  over_given f = f ∙ (as_over b a d (over_by_ratio s p a b e)).1
 
 exact_twice : (s : ℕ) (p : Pair) (v c : ℕ) → 0 < s → 0 < v → 0 < c → over s p (exact (c * v)) ≡ over s (over s p (exact v)) (exact (c * s))
 unfolding over exact

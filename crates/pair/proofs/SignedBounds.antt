@@ -14,7 +14,7 @@ use Rattle.pair.specs.Fits.{word, ordered, signed_ordered, signed_plus_fits, sig
 use Rattle.pair.specs.Enclosure.{Ordered, SignedOrdered, AtLeast, AtMost, Reaches}
 use Rattle.pair.specs.declared.Pair.{Pair}
 use Rattle.pair.proofs.Quotients.{ceil_le, floor_le_ceil}
-use Rattle.pair.proofs.Tests.{and_left, and_right, and_both, and_three}
+use Rattle.std.proofs.lemmas.Bool.{and_from, and_parts}
 use Rattle.pair.proofs.IntegerParts.{sub_size, neg_size, plus_size}
 use Rattle.pair.proofs.IntegerLaws.{of_least, of_greatest, leb_ℤ-true, le-leb_ℤ}
 use Rattle.pair.proofs.SignedProducts.{of_least_product, of_greatest_product}
@@ -128,14 +128,14 @@ signed_plus_fits_lem r t h = word_of (omega arith) h
 pub signed_times_fits_lem : {a b c s : ℕ} {x y : SignedPair} → 0 < s → SignedOrdered x → SignedOrdered y → Reaches a x → Reaches b y → a * b ≤ c * s → c < 2 ^ 64 → signed_times_fits s x y ≡ true
 unfolding signed_times_fits signed_ordered
 signed_times_fits_lem s⁺ o p r t h k =
-    and_both (and_both (and_both (lt-ltb _ _ s⁺) (le-leb_ℤ _ _ o.ends)) (le-leb_ℤ _ _ p.ends))
+    and_from _ _ (and_from _ _ (and_from _ _ (lt-ltb _ _ s⁺) (le-leb_ℤ _ _ o.ends)) (le-leb_ℤ _ _ p.ends))
     (word_of (ceil_le s⁺ (le_trans (mul-le-mul r.size t.size) h)) k)
 
 pub signed_over_fits_lem : (s : ℕ) {a b c : ℕ} {x : SignedPair} {q : Pair} → Ordered q → AtLeast b q → 0 < b → Reaches a x → a * s ≤ c * b → c < 2 ^ 64 → signed_over_fits s x q ≡ true
 unfolding signed_over_fits ordered
 signed_over_fits_lem s {c} o l b⁺ r h k =
     let lo⁺ = le_trans b⁺ l.low in
-    and_both (and_both (lt-ltb _ _ lo⁺) (le-leb _ _ o.ends))
+    and_from _ _ (and_from _ _ (lt-ltb _ _ lo⁺) (le-leb _ _ o.ends))
     (word_of (ceil_le lo⁺ (le_trans (mul-le-mul_right s r.size) (le_trans h (mul-le-mul_left c l.low)))) k)
 
 -- and what it tells
@@ -161,16 +161,14 @@ plus_room x y h = record { room = ltb-true _ _ h }
 pub times_room : (s : ℕ) (x y : SignedPair) → signed_times_fits s x y ≡ true → TimesRoom s x y
 unfolding signed_times_fits signed_ordered word
 times_room s x y h =
-    let t = and_three (ltb 0 s && signed_ordered x) (signed_ordered y) (word (ceil_div (reach x * reach y) s)) h in
-    record {
-      scale = ltb-true _ _ (and_left (ltb 0 s) (signed_ordered x) t.0);
-      first = leb_ℤ-true _ _ (and_right (ltb 0 s) (signed_ordered x) t.0);
-      second = leb_ℤ-true _ _ t.1;
-      room = ltb-true _ _ t.2;
-    }
+    let all = and_parts (ltb 0 s && signed_ordered x && signed_ordered y) _ h in
+    let ends = and_parts (ltb 0 s && signed_ordered x) _ all.0 in
+    let first = and_parts (ltb 0 s) _ ends.0 in
+    record { scale = ltb-true _ _ first.0; first = leb_ℤ-true _ _ first.1; second = leb_ℤ-true _ _ ends.1; room = ltb-true _ _ all.1 }
 
 pub over_room : (s : ℕ) (x : SignedPair) (q : Pair) → signed_over_fits s x q ≡ true → OverRoom s x q
 unfolding signed_over_fits ordered word
 over_room s x q h =
-    let t = and_three (ltb 0 q.lo) (ordered q) (word (ceil_div (reach x * s) q.lo)) h in
-    record { some = ltb-true _ _ t.0; ends = leb-true _ _ t.1; room = ltb-true _ _ t.2 }
+    let all = and_parts (ltb 0 q.lo && ordered q) _ h in
+    let pair = and_parts (ltb 0 q.lo) _ all.0 in
+    record { some = ltb-true _ _ pair.0; ends = leb-true _ _ pair.1; room = ltb-true _ _ all.1 }

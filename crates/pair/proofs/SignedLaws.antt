@@ -1,13 +1,12 @@
 -- Differences and sums as signed pairs, and coarser units: an exact result lies between the ends, the ends are in order, and a finer result lies inside a coarser one.
-use mathlib.Core.Path.{◌≡◌}
 use Prim.Native.Nat.{ℕ, ◌*◌, ◌<◌}
 use native.Mathlib.Nat.{le_trans, mul_comm}
 use native.Mathlib.Omega.{arith}
-use lib.IntN.{ℤ, pos, sub_ℕ, ◌+ℤ◌, ◌-ℤ◌}
-use Rattle.pair.specs.SignedPairs.{SignedPair, ◌upto◌, signed, opposite, difference, signed_plus, signed_minus, coarser}
+use lib.IntN.{ℤ, pos, ◌+ℤ◌, ◌-ℤ◌}
+use Rattle.pair.specs.SignedPairs.{SignedPair, signed, opposite, difference, signed_plus, signed_minus, coarser}
 use Rattle.pair.specs.Enclosure.{Inside, SignedInside, Between, SignedBetween, Ordered, SignedOrdered}
 use Rattle.pair.specs.declared.Pair.{Pair}
-use Rattle.pair.proofs.IntegerLaws.{sub_is, plus_scaled, le_trans_ℤ, plus_le, scaled_scaled}
+use Rattle.pair.proofs.IntegerLaws.{plus_scaled, le_trans_ℤ, plus_le, scaled_scaled}
 use Rattle.pair.proofs.Opposites.{opposite_between, opposite_ordered, opposite_inside}
 use Rattle.pair.proofs.IntegerRounding.{le_floor_ℤ, ceil_le_ℤ, floor_scaled, ceil_scaled, floor_le_ceil_ℤ}
 
@@ -85,11 +84,6 @@ difference-Ordered o r = signed_minus_ordered (signed_ordered_lem o) (signed_ord
 pub difference-Inside : {m : ℕ} {P p Q q : Pair} → Inside m P p → Inside m Q q → SignedInside m (difference P Q) (difference p q)
 unfolding signed difference signed_minus
 difference-Inside i k = signed_minus_inside (signed_inside i) (signed_inside k)
-
--- in the library's word for what may lie below zero
-pub difference_is : (p q : Pair) → difference p q ≡ (sub_ℕ p.lo q.hi upto sub_ℕ p.hi q.lo)
-unfolding difference
-difference_is p q = λ i. record { lo = sub_is p.lo q.hi i; hi = sub_is p.hi q.lo i }
 
 -- coarser units
 

@@ -25,10 +25,6 @@ module _ (s : ℕ) {lo hi r l : ℕ} (o : lo ≤ hi) (small : hi * s < 2 ^ 70) (
   pub lower_square_fits : r < 2 ^ 35
   lower_square_fits = square_fits (lt_of_le_of_lt (mul-le-mul_right s o) small) i
 
-  pub square_left_fits : hi - lo < 2 ^ 20 → s < 2 ^ 40 → (hi - lo) * s + l + r * 2 < 2 ^ 62
-  square_left_fits h k =
-      omega (arith, mul-le-mul {n₁ = hi - lo} {m₁ = s} {n₂ = 2 ^ 20} {m₂ = 2 ^ 40} (omega arith) (omega arith), i.small, lower_square_fits)
-
   pub square_step_fits : (d : ℕ) → d < 2 ^ 20 → (d - 1) * (r * 2 + (d - 1)) < 2 ^ 62
   square_step_fits d h =
       omega (arith, mul-le-mul {n₁ = d - 1} {m₁ = r * 2 + (d - 1)} {n₂ = 2 ^ 20} {m₂ = 2 ^ 37} (omega arith) (omega (arith, lower_square_fits)))

@@ -11,7 +11,7 @@ ghost use Rattle.std.specs.Prelude.{◌≡◌, true};
 ghost use Rattle.pair.specs.Pairs.{exact, ratio, plus, minus, times, over, root, cube_root, smaller};
 ghost use Rattle.pair.specs.Fits.{ratio_fits, plus_fits, minus_fits, times_fits, over_fits, times_ratio_fits, over_ratio_fits, root_fits, cube_root_fits};
 
-use roots::{Cube, Square};
+use roots::{Cube, RootScale, Square};
 use wide::{Down, Up};
 
 #[repr(C)]
@@ -21,11 +21,37 @@ pub struct Pair {
     pub hi: u64,
 }
 
-// Two of a kind: of flange 1 and of flange 2, or worked side by side.
+// Two of a kind, as of flange 1 and of flange 2.
 #[derive(Clone, Copy, Debug, PartialEq, Eq)]
 pub struct Both<T> {
     pub one: T,
     pub two: T,
+}
+
+impl<T> Both<T> {
+    // What f makes of each.
+    pub fn map<U, F: Fn(T) -> U>(self, f: F) -> Both<U>
+        requires one { F.pre f self.one }
+        requires two { F.pre f self.two }
+        ensures one { F.post f self.one result.one }
+        ensures two { F.post f self.two result.two }
+    {
+        Both {
+            one: f(self.one),
+            two: f(self.two),
+        }
+    }
+
+    // Each beside its counterpart of another.
+    pub fn zip<U>(self, other: Both<U>) -> Both<(T, U)>
+        ensures one { result.one ≡ (self.one, other.one) }
+        ensures two { result.two ≡ (self.two, other.two) }
+    {
+        Both {
+            one: (self.one, other.one),
+            two: (self.two, other.two),
+        }
+    }
 }
 
 impl Pair {
@@ -68,7 +94,7 @@ impl Pair {
         }
     }
 
-    #[tactic(auto, using(crate::proofs::Outward::times_outward, crate::proofs::Outward::outward_is))]
+    #[tactic(auto, using(crate::proofs::Outward::times_outward, crate::proofs::Outward::outward_is, crate::proofs::Fitting::times_some))]
     #[inline]
     pub fn times(self, q: Pair, s: u64) -> Self
         requires { times_fits s self q ≡ true }
@@ -89,7 +115,7 @@ impl Pair {
         }
     }
 
-    #[tactic(auto, using(crate::proofs::Outward::over_outward, crate::proofs::Outward::outward_is))]
+    #[tactic(auto, using(crate::proofs::Outward::over_outward, crate::proofs::Outward::outward_is, crate::proofs::Fitting::over_some, crate::proofs::Fitting::over_some_above))]
     pub fn over(self, q: Pair, s: u64) -> Self
         requires { over_fits s self q ≡ true }
         ensures { result ≡ over s self q }
@@ -100,28 +126,22 @@ impl Pair {
         }
     }
 
-    // Times the exact value a / b: the scale cancels.
-    #[tactic(auto, using(crate::proofs::Ratios::times_by_ratio, crate::proofs::Outward::outward_is))]
+    // Times the exact value a / b: the scale cancels, and the working is that of dividing by b at the scale a.
+    #[tactic(auto, using(crate::proofs::Ratios::times_asked, crate::proofs::Ratios::times_given))]
     pub fn times_ratio(self, a: u64, b: u64, s: u64) -> Self
         requires { times_ratio_fits s self a b ≡ true }
         ensures { result ≡ times s self (ratio s a b) }
     {
-        Pair {
-            lo: wide::by::<Down>(self.lo, a, b),
-            hi: wide::by::<Up>(self.hi, a, b),
-        }
+        self.over(Pair::exact(b), a)
     }
 
-    // Divided by the exact value a / b: the scale cancels.
-    #[tactic(auto, using(crate::proofs::Ratios::over_by_ratio, crate::proofs::Outward::outward_is))]
+    // Divided by the exact value a / b: times b / a.
+    #[tactic(auto, using(crate::proofs::Ratios::over_asked, crate::proofs::Ratios::over_given))]
     pub fn over_ratio(self, a: u64, b: u64, s: u64) -> Self
         requires { over_ratio_fits s self a b ≡ true }
         ensures { result ≡ over s self (ratio s a b) }
     {
-        Pair {
-            lo: wide::by::<Down>(self.lo, b, a),
-            hi: wide::by::<Up>(self.hi, b, a),
-        }
+        self.over(Pair::exact(a), b)
     }
 
     // The upper end's root is found from the lower's and what that leaves, here and in cube_root.
@@ -129,6 +149,7 @@ impl Pair {
         requires { root_fits s self ≡ true }
         ensures { result ≡ root s self }
     {
+        let s = RootScale { units: s };
         let below = Square::scaled(self.lo, s);
         Pair {
             lo: below.root,
@@ -136,30 +157,11 @@ impl Pair {
         }
     }
 
-    // The roots of two pairs, worked side by side.
-    pub fn roots(self, q: Pair, s: u64) -> Both<Pair>
-        requires one { root_fits s self ≡ true }
-        requires two { root_fits s q ≡ true }
-        ensures one { result.one ≡ root s self }
-        ensures two { result.two ≡ root s q }
-    {
-        let below = Square::both_scaled(self.lo, q.lo, s);
-        Both {
-            one: Pair {
-                lo: below.one.root,
-                hi: below.one.above(self.lo, self.hi, s),
-            },
-            two: Pair {
-                lo: below.two.root,
-                hi: below.two.above(q.lo, q.hi, s),
-            },
-        }
-    }
-
     pub fn cube_root(self, s: u64) -> Self
         requires { cube_root_fits s self ≡ true }
         ensures { result ≡ cube_root s self }
     {
+        let s = RootScale { units: s };
         let below = Cube::scaled(self.lo, s);
         Pair {
             lo: below.root,

@@ -3,7 +3,14 @@
 ghost use Rattle.std.specs.Prelude.{◌≡◌, ◌+◌, ◌*◌, ◌%◌, ◌^◌, ◌≤◌, ◌<◌, IfSome};
 ghost use Rattle.pair.specs.Rounding.{root_up};
 
-use crate::{Both, guesses};
+use crate::guesses;
+
+// A scale at which roots are worked: its units in 1, a multiple of 64.
+#[derive(Clone, Copy, Debug, PartialEq, Eq)]
+pub struct RootScale {
+    pub units: u64,
+    ghost digits: { units % 64 ≡ 0 },
+}
 
 // A square root with what is left over.
 #[derive(Clone, Copy, Debug, PartialEq, Eq)]
@@ -60,17 +67,16 @@ impl Square {
 
     // The root of hi * s rounded up, from this of lo * s. What it would leave of hi * s is left, so the
     // root is higher by d = left / (2 * root + 1) rounded up, where d - 1 is not enough.
-    pub fn above(self, lo: u64, hi: u64, s: u64) -> u64
+    pub fn above(self, lo: u64, hi: u64, s: RootScale) -> u64
         requires order { lo ≤ hi }
-        requires scale { s % 64 ≡ 0 }
-        requires fits { hi * s < 2 ^ 70 }
-        requires taken { square_taken self ≡ lo * s }
-        ensures { result ≡ root_up 2 (hi * s) }
+        requires fits { hi * s.units < 2 ^ 70 }
+        requires taken { square_taken self ≡ lo * s.units }
+        ensures { result ≡ root_up 2 (hi * s.units) }
     {
         let more = hi - lo;
         let twice = self.root * 2;
-        if more < 0x10_0000 && s < 0x100_0000_0000 {
-            let left = more * s + self.rest;
+        if more < 0x10_0000 && s.units < 0x100_0000_0000 {
+            let left = more * s.units + self.rest;
             let d = (left + twice) / (twice + 1);
             if d == 0 {
                 return self.root;
@@ -82,19 +88,15 @@ impl Square {
         Square::scaled(hi, s).up()
     }
 
-    // The roots of m and n in one loop: a bit of the one need not wait for a bit of the other.
-    fn both_by_bits(m: u64, n: u64) -> Both<Square>
-        ensures one { square_taken result.one ≡ m }
-        ensures two { square_taken result.two ≡ n }
+    fn by_bits(n: u64) -> Square
+        ensures { square_taken result ≡ n }
     {
-        let mut one = Square { root: 0, rest: 0 };
-        let mut two = Square { root: 0, rest: 0 };
-        let digits = (65 - m.max(n).leading_zeros()) / 2;
+        let mut t = Square { root: 0, rest: 0 };
+        let digits = (65 - n.leading_zeros()) / 2;
         for at in (0..digits).rev() {
-            one = one.with_digit((m >> (at * 2)) % 4);
-            two = two.with_digit((n >> (at * 2)) % 4);
+            t = t.with_digit((n >> (at * 2)) % 4);
         }
-        Both { one, two }
+        t
     }
 
     // The root of n: the guess or one more, where what that leaves shows that it is right.
@@ -114,60 +116,21 @@ impl Square {
         }
     }
 
-    // The roots of m and n.
-    pub fn both_of(m: u64, n: u64) -> Both<Square>
-        ensures one { square_taken result.one ≡ m }
-        ensures two { square_taken result.two ≡ n }
-    {
-        if let Some(one) = Square::guessed(m)
-            && let Some(two) = Square::guessed(n)
-        {
-            return Both { one, two };
-        }
-        Square::both_by_bits(m, n)
-    }
-
     pub fn of(n: u64) -> Square
         ensures { square_taken result ≡ n }
     {
-        match Square::guessed(n) {
-            Some(t) => t,
-            None => Square::both_by_bits(n, 0).one,
-        }
+        Square::guessed(n).unwrap_or_else(|| Square::by_bits(n))
     }
 
     // The root of v * s. Where that passes 64 bits: of v * (s / 64), and three digits 0 more.
     #[tactic(auto, using(crate::proofs::ScaledRoot::by_64))]
-    pub fn scaled(v: u64, s: u64) -> Square
-        requires scale { s % 64 ≡ 0 }
-        requires fits { v * s < 2 ^ 70 }
-        ensures { square_taken result ≡ v * s }
+    pub fn scaled(v: u64, s: RootScale) -> Square
+        requires { v * s.units < 2 ^ 70 }
+        ensures { square_taken result ≡ v * s.units }
     {
-        match v.checked_mul(s) {
+        match v.checked_mul(s.units) {
             Some(n) => Square::of(n),
-            None => Square::of(v * (s / 64)).by_64(),
-        }
-    }
-
-    // The roots of v * s and of w * s.
-    #[tactic(auto, using(crate::proofs::ScaledRoot::by_64))]
-    pub fn both_scaled(v: u64, w: u64, s: u64) -> Both<Square>
-        requires scale { s % 64 ≡ 0 }
-        requires one { v * s < 2 ^ 70 }
-        requires two { w * s < 2 ^ 70 }
-        ensures one { square_taken result.one ≡ v * s }
-        ensures two { square_taken result.two ≡ w * s }
-    {
-        if let Some(m) = v.checked_mul(s)
-            && let Some(n) = w.checked_mul(s)
-        {
-            return Square::both_of(m, n);
-        }
-        let part = s / 64;
-        let t = Square::both_of(v * part, w * part);
-        Both {
-            one: t.one.by_64(),
-            two: t.two.by_64(),
+            None => Square::of(v * (s.units / 64)).by_64(),
         }
     }
 }
@@ -202,17 +165,16 @@ impl Cube {
 
     // The root of hi * s * s rounded up, from this of lo * s * s, as for a square root: here
     // d = left / (3 * root * root + 3 * root + 1) rounded up.
-    pub fn above(self, lo: u64, hi: u64, s: u64) -> u64
+    pub fn above(self, lo: u64, hi: u64, s: RootScale) -> u64
         requires order { lo ≤ hi }
-        requires scale { s % 64 ≡ 0 }
-        requires fits { hi * (s * s) < 2 ^ 76 }
-        requires taken { cube_taken self ≡ lo * (s * s) }
-        ensures { result ≡ root_up 3 (hi * (s * s)) }
+        requires fits { hi * (s.units * s.units) < 2 ^ 76 }
+        requires taken { cube_taken self ≡ lo * (s.units * s.units) }
+        ensures { result ≡ root_up 3 (hi * (s.units * s.units)) }
     {
         let more = hi - lo;
         let thrice = self.root * 3;
-        if more < 0x4000 && s < 0x100_0000 {
-            let left = more * (s * s) + self.rest;
+        if more < 0x4000 && s.units < 0x100_0000 {
+            let left = more * (s.units * s.units) + self.rest;
             let gap = self.triple + thrice;
             let d = (left + gap) / (gap + 1);
             if d == 0 {
@@ -242,12 +204,11 @@ impl Cube {
 
     // The cube root of v * s * s, which may pass 64 bits: of v * (s / 64) * (s / 64), and four digits 0 more.
     #[tactic(auto, using(crate::proofs::ScaledRoot::by_4096, crate::proofs::ScaledRoot::factor_fits, crate::proofs::ScaledRoot::cube_room))]
-    pub fn scaled(v: u64, s: u64) -> Cube
-        requires scale { s % 64 ≡ 0 }
-        requires fits { v * (s * s) < 2 ^ 76 }
-        ensures { cube_taken result ≡ v * (s * s) }
+    pub fn scaled(v: u64, s: RootScale) -> Cube
+        requires { v * (s.units * s.units) < 2 ^ 76 }
+        ensures { cube_taken result ≡ v * (s.units * s.units) }
     {
-        let part = s / 64;
+        let part = s.units / 64;
         Cube::of(v * part * part)
             .with_digit(0)
             .with_digit(0)

@@ -7,12 +7,13 @@ pub mod signed;
 ghost use Rattle.std.specs.Prelude.{◌≡◌, true, ◌*◌, ◌/◌, ◌^◌, ◌<◌};
 ghost use Rattle.pair.specs.Rounding.{ceil_div};
 ghost use Rattle.pair.specs.Remainders.{Split, SquareRooted, CubeRooted};
+ghost use Rattle.pair.specs.Roots.{square_taken, cube_taken};
 ghost use Rattle.pair.specs.Pairs.{◌to◌, exact, ratio, plus, minus, times, over, root, cube_root, smaller};
 ghost use Rattle.pair.specs.Fits.{ratio_fits, plus_fits, minus_fits, times_fits, over_fits, times_ratio_fits, over_ratio_fits, root_fits, cube_root_fits};
 
 use pair::roots::{Cube, Square};
 use pair::wide::{Down, Up};
-use pair::{Pair, wide};
+use pair::{Both, Pair, wide};
 
 // A quotient or a root with what is left over.
 #[repr(C)]
@@ -22,12 +23,47 @@ pub struct Part {
     pub rest: u64,
 }
 
-// Two pairs, worked side by side.
+impl From<(u64, u64)> for Part {
+    ghost from_gives = { λ t p. p ≡ record { whole = t.0; rest = t.1 } };
+
+    fn from((whole, rest): (u64, u64)) -> Part {
+        Part { whole, rest }
+    }
+}
+
+impl From<Square> for Part {
+    ghost from_gives = { λ t p. SquareRooted (square_taken t) p.whole p.rest };
+
+    fn from(t: Square) -> Part {
+        Part::from((t.root, t.rest))
+    }
+}
+
+impl From<Cube> for Part {
+    ghost from_gives = { λ t p. CubeRooted (cube_taken t) p.whole (3 * (p.whole * p.whole)) p.rest };
+
+    fn from(t: Cube) -> Part {
+        Part::from((t.root, t.rest))
+    }
+}
+
+// Two pairs.
 #[repr(C)]
 #[derive(Clone, Copy, Debug, PartialEq, Eq)]
 pub struct TwoPairs {
     pub one: Pair,
     pub two: Pair,
+}
+
+impl From<Both<Pair>> for TwoPairs {
+    ghost from_gives = { λ b t. t ≡ record { one = b.one; two = b.two } };
+
+    fn from(both: Both<Pair>) -> TwoPairs {
+        TwoPairs {
+            one: both.one,
+            two: both.two,
+        }
+    }
 }
 
 #[unsafe(no_mangle)]
@@ -43,8 +79,7 @@ pub extern "C" fn pair_product_by(a: u64, b: u64, d: u64) -> Part
     requires fits { a * b / d < 2 ^ 64 }
     ensures { Split (a * b) d result.whole result.rest }
 {
-    let (whole, rest) = wide::product_by(a, b, d);
-    Part { whole, rest }
+    Part::from(wide::product_by(a, b, d))
 }
 
 #[unsafe(no_mangle)]
@@ -69,22 +104,14 @@ pub extern "C" fn pair_ceil_of(a: u64, b: u64, d: u64) -> u64
 pub extern "C" fn pair_square_of(n: u64) -> Part
     ensures { SquareRooted n result.whole result.rest }
 {
-    let t = Square::of(n);
-    Part {
-        whole: t.root,
-        rest: t.rest,
-    }
+    Part::from(Square::of(n))
 }
 
 #[unsafe(no_mangle)]
 pub extern "C" fn pair_cube_of(n: u64) -> Part
     ensures { CubeRooted n result.whole (3 * (result.whole * result.whole)) result.rest }
 {
-    let t = Cube::of(n);
-    Part {
-        whole: t.root,
-        rest: t.rest,
-    }
+    Part::from(Cube::of(n))
 }
 
 #[unsafe(no_mangle)]
@@ -193,11 +220,7 @@ pub extern "C" fn pair_roots(lo: u64, hi: u64, least: u64, most: u64, s: u64) ->
         lo: least,
         hi: most,
     };
-    let both = p.roots(q, s);
-    TwoPairs {
-        one: both.one,
-        two: both.two,
-    }
+    TwoPairs::from(Both { one: p, two: q }.map(|x| x.root(s)))
 }
 
 #[unsafe(no_mangle)]

@@ -3,7 +3,7 @@ use pair::Pair;
 use std::fmt;
 use std::fmt::{Display, Formatter};
 
-#[derive(Clone, Copy)]
+#[derive(Clone, Copy, Debug, PartialEq, Eq)]
 pub enum Outcome {
     Whole(u64),
     Rooted(u64, u64),

@@ -36,10 +36,7 @@ fn root(p: Pair, s: u64) -> Option<Outcome> {
 
 fn roots(p: Pair, q: Pair, s: u64) -> Option<Outcome> {
     let fits = pair_checked::root_fits(p, s) && pair_checked::root_fits(q, s);
-    fits.then(|| {
-        let t = p.roots(q, s);
-        Outcome::TwoEnds(t.one, t.two)
-    })
+    fits.then(|| Outcome::TwoEnds(p.root(s), q.root(s)))
 }
 
 fn cube_root(p: Pair, s: u64) -> Option<Outcome> {

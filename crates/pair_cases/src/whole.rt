@@ -1,6 +1,6 @@
 // Cases of wide quotients and of whole roots.
 use crate::outcome::Outcome;
-use pair::roots::{Cube, Square};
+use pair::roots::{Cube, RootScale, Square};
 use pair::wide::{Down, Up};
 use pair::{Pair, wide};
 
@@ -21,10 +21,11 @@ fn square_of(n: u64) -> Outcome {
 
 #[tactic(auto, using(crate::proofs::Tested::roots))]
 fn scaled_square(v: u64, s: u64) -> Option<Outcome> {
-    pair_checked::root_fits(Pair::exact(v), s).then(|| {
-        let t = Square::scaled(v, s);
-        Outcome::Rooted(t.root, t.rest)
-    })
+    if !pair_checked::root_fits(Pair::exact(v), s) {
+        return None;
+    }
+    let t = Square::scaled(v, RootScale { units: s });
+    Some(Outcome::Rooted(t.root, t.rest))
 }
 
 fn cube_of(n: u64) -> Outcome {

@@ -5,17 +5,13 @@
 ghost use Rattle.std.specs.Prelude.{◌≡◌, ◌&&◌, ◌+◌, ◌*◌, ◌/◌, ◌%◌, ◌<◌, ltb, unsigned_abs};
 ghost use Rattle.pair.specs.Rounding.{ceil_div};
 ghost use Rattle.pair.specs.SignedPairs.{signed, reach};
-ghost use Rattle.pair.specs.Fits.{word, ratio_fits, exact_ratio, plus_fits, minus_fits, times_fits, over_fits, times_ratio_fits, over_ratio_fits, root_fits, cube_root_fits, signed_plus_fits, signed_times_fits, signed_over_fits};
+ghost use Rattle.pair.specs.Fits.{word, ratio_fits, exact_ratio, plus_fits, minus_fits, times_fits, over_fits, times_ratio_fits, over_ratio_fits};
+ghost use Rattle.pair.specs.Fits.{root_fits, cube_root_fits, signed_ordered, signed_plus_fits, signed_times_fits, signed_over_fits};
 
 use pair::signed::Signed;
 use pair::{Pair, wide};
 
-fn both(a: bool, b: bool) -> bool
-    ensures { result ≡ (a && b) }
-{
-    if a { b } else { false }
-}
-
+#[tactic(auto, using(crate::proofs::Deciding::sum_test))]
 fn sum_fits(a: u64, b: u64) -> bool
     ensures { result ≡ word (a + b) }
 {
@@ -31,17 +27,15 @@ pub fn floor_fits(a: u64, b: u64, d: u64) -> bool
 }
 
 // a * b / d rounded up.
+#[tactic(auto, using(crate::proofs::Deciding::ceil_tests))]
 pub fn ceil_fits(a: u64, b: u64, d: u64) -> bool
     ensures { result ≡ (ltb 0 d && word (ceil_div (a * b) d)) }
 {
-    if floor_fits(a, b, d) {
-        let (quotient, rest) = wide::product_by(a, b, d);
-        if rest == 0 {
-            return true;
-        }
-        return quotient < u64::MAX;
+    if !floor_fits(a, b, d) {
+        return false;
     }
-    false
+    let (quotient, rest) = wide::product_by(a, b, d);
+    rest == 0 || quotient < u64::MAX
 }
 
 #[tactic(auto, unfolding(pair::specs::Fits::plus_fits, pair::specs::Fits::words, pair::specs::Pairs::plus))]
@@ -80,6 +74,7 @@ pub fn ratio_fits(a: u64, b: u64, s: u64) -> bool
 }
 
 // a / b is a whole number of units: b divides a * s just where it divides a % b * s.
+#[tactic(auto, using(crate::proofs::Deciding::ratio_tests))]
 fn ratio_exact(a: u64, b: u64, s: u64) -> bool
     ensures { result ≡ exact_ratio s a b }
 {
@@ -153,14 +148,18 @@ pub fn signed_plus_fits(a: Signed, b: Signed) -> bool
     sum_fits(reach_of(a), reach_of(b))
 }
 
-#[tactic(auto, using(crate::proofs::Deciding::signed_tests))]
+#[tactic(auto, using(crate::proofs::Deciding::order_test), unfolding(pair::specs::Fits::signed_ordered))]
+fn is_ordered(a: Signed) -> bool
+    ensures { result ≡ signed_ordered a }
+{
+    a.lo <= a.hi
+}
+
+#[tactic(auto, unfolding(pair::specs::Fits::signed_times_fits))]
 pub fn signed_times_fits(a: Signed, b: Signed, s: u64) -> bool
     ensures { result ≡ signed_times_fits s a b }
 {
-    both(
-        both(a.lo <= a.hi, b.lo <= b.hi),
-        ceil_fits(reach_of(a), reach_of(b), s),
-    )
+    is_ordered(a) && is_ordered(b) && ceil_fits(reach_of(a), reach_of(b), s)
 }
 
 pub fn signed_times_pair_fits(a: Signed, p: Pair, s: u64) -> bool
@@ -169,9 +168,9 @@ pub fn signed_times_pair_fits(a: Signed, p: Pair, s: u64) -> bool
     signed_times_fits(a, Signed::from(p), s)
 }
 
-#[tactic(auto, using(crate::proofs::Deciding::signed_tests))]
+#[tactic(auto, unfolding(pair::specs::Fits::signed_over_fits, pair::specs::Fits::ordered))]
 pub fn signed_over_fits(a: Signed, q: Pair, s: u64) -> bool
     ensures { result ≡ signed_over_fits s a q }
 {
-    both(q.lo <= q.hi, ceil_fits(reach_of(a), s, q.lo))
+    q.lo <= q.hi && ceil_fits(reach_of(a), s, q.lo)
 }

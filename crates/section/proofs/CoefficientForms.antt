@@ -14,7 +14,7 @@ use Rattle.pair.proofs.Laws.{same_scale, inside, minus_box, times_box, cube_root
 use Rattle.section.specs.Working.{scale_of, units, constant, k_past, k_at, k}
 use Rattle.section.specs.Parts.{Fine}
 use Rattle.section.specs.Room.{PastRoom, LipRatio}
-use Rattle.section.proofs.Ends.{scale, scale_positive, constant_exact}
+use Rattle.section.proofs.Ends.{scale, scale-Fine, scale_positive, constant_exact}
 use Rattle.section.proofs.Rising.{Rises, rising}
 use Rattle.section.proofs.BoxRooms.{constant_box, ratio_room, plus_room, times_room, by_times}
 
@@ -103,3 +103,5 @@ unfolding k k_at
 k_past_is {n} {q} f r past e =
     rw (lt-leb q.lo (units n 35 100) (omega arith), lt-leb q.hi (units n 35 100) (omega (arith, r.order)))
     (e ∙ (λ i. low_end f.some r.order i to high_end f.some r.order i))
+
+pub ruleset at_one_ratio = (scale-Fine, half_room, k_at_most, k_at_past)

@@ -2,7 +2,7 @@
 use Prim.Native.Nat.{ℕ, min, max, ◌*◌, ◌%◌, ◌^◌, ◌≤◌, ◌<◌, ◌∣◌}
 use mathlib.Core.Path.{◌≡◌, refl}
 use mathlib.Core.Bool.{true}
-use native.Mathlib.Nat.{mul_comm, mul-pos, mul-le-mul, mul-le-mul_left, mul-le-mul_right, min-le_left, min-le_right, le-max_left, le-max_right}
+use native.Mathlib.Nat.{mul_comm, mul-pos, mul-le-mul_left, mul-le-mul_right, min-le_left, min-le_right, le-max_left, le-max_right}
 use native.Mathlib.Nat.{mul-div_assoc, div-mul_cancel, dvd_of_mod-eq-zero, mod-eq-zero_of_dvd, dvd-mul_left_of_dvd}
 use native.Mathlib.Omega.{arith}
 use lib.Dec.{lit<, lit≤}
@@ -36,9 +36,6 @@ scale f = record { many = f.some; some = lit< tt; scale = refl }
 -- and at most ten times that
 pub scale_most : {n : ℕ} → Fine n → scale_of n ≤ 10000000
 scale_most f = omega (arith, f.most)
-
-pub scale_square_most : {n : ℕ} → Fine n → scale_of n * scale_of n ≤ 100000000000000
-scale_square_most f = mul-le-mul (scale_most f) (scale_most f)
 
 -- so a number in millionths up to this one is a word in units of 1/S
 pub word_at : {n : ℕ} (b : ℕ) → Fine n → b ≤ 1844674407370955161 → b * n < 2 ^ 64

@@ -1,6 +1,6 @@
 -- χ at the ends, as the code works it.
 use mathlib.Core.Path.{◌≡◌, refl, ap, ◌∙◌}
-use Prim.Native.Nat.{ℕ, ◌-◌, ◌*◌, ◌/◌, ◌^◌, ◌≤◌, ◌<◌, min, max}
+use Prim.Native.Nat.{ℕ, ◌-◌, ◌*◌, ◌/◌, ◌≤◌, ◌<◌, min, max}
 use native.Mathlib.Nat.{min_comm, max_comm}
 use native.Mathlib.Omega.{arith}
 use borrow.Author.Tests.{le-leb, lt-leb, lt-ltb, le-ltb}
@@ -8,8 +8,6 @@ use Rattle.pair.specs.Rounding.{ceil_div}
 use Rattle.pair.specs.Pairs.{◌to◌}
 use Rattle.pair.specs.declared.Pair.{Pair}
 use Rattle.section.specs.Working.{scale_of, units, χ_before, χ_from, χ}
-use Rattle.section.specs.Parts.{Fine}
-use Rattle.section.proofs.Ends.{scale_square_most}
 
 module _ (n u : ℕ) where
   -- rounded down or up
@@ -25,9 +23,6 @@ module _ (n u : ℕ) where
     pub past_is : quotient (66 * (scale_of n * scale_of n)) (100 * u) ≡ χ_from n quotient u
     unfolding χ_from
     past_is = refl
-
-pub square_fits : {n : ℕ} → Fine n → 66 * (scale_of n * scale_of n) < 2 ^ 64
-square_fits {n} f = omega (arith, scale_square_most f)
 
 -- 0.47226, in units
 pub units_47226 : (n : ℕ) → n * 472260 ≡ units n 47226 100000

@@ -1,7 +1,6 @@
 -- What crates above may cite of the working.
 -- the printed figures
-pub use Rattle.section.proofs.PrintedFigures.{FiguresBelow, allowed_is_met, area_of_form, axial_of_form, chi1_of_form, chi2_of_form}
-pub use Rattle.section.proofs.PrintedFigures.{not_allowed_is_unmet, shifthi_of_form, shiftlo_of_form}
+pub use Rattle.section.proofs.PrintedFigures.{FiguresBelow, allowed_is_met, not_allowed_is_unmet}
 pub use Rattle.section.proofs.Theorems.{figures_have_ten_digits, fineness-Fine, finer_working_held, finer_working_inside, printed_factors_never_rise}
 -- a sheet and its values in the order of the lines
 pub use Rattle.section.proofs.SheetValues.{same_values, values_of_sheet}

@@ -1,4 +1,4 @@
--- The printed figures: the fields of the code's form of them, the eleventh question as a test, and below what number each lies.
+-- The printed figures: the eleventh question as a test, and below what number each lies.
 use mathlib.Core.Path.{◌≡◌, refl}
 use mathlib.Core.Bool.{true, false}
 use mathlib.Core.Logic.{◌↔◌}
@@ -15,39 +15,11 @@ use Rattle.section.specs.declared.Sheet.{Sheet}
 use Rattle.section.specs.Sound.{Sound}
 use Rattle.section.specs.Working.{scale_of, worked}
 use Rattle.section.specs.Figures.{Printed, printed, figures, Question11, allowed}
-use Rattle.section.specs.Forms.{figures_of}
 use Rattle.section.specs.Parts.{Fine}
 use Rattle.section.proofs.SheetNumbers.{section_numbers}
 use Rattle.section.proofs.SizesOfSheets.{hp_box, sheet_effective_box, sheet_full_box}
 use Rattle.section.proofs.SizesOfAxis.{axis_reaches}
 use Rattle.section.proofs.Printing.{area_most, printed_area}
-
--- the fields of the code's form
-
-module _ (p : Printed) where
-  pub area_of_form : (figures_of p).area ≡ p.area
-  unfolding figures_of
-  area_of_form = refl
-
-  pub axial_of_form : (figures_of p).axial ≡ p.axial
-  unfolding figures_of
-  axial_of_form = refl
-
-  pub chi1_of_form : (figures_of p).chi1 ≡ p.chi1
-  unfolding figures_of
-  chi1_of_form = refl
-
-  pub chi2_of_form : (figures_of p).chi2 ≡ p.chi2
-  unfolding figures_of
-  chi2_of_form = refl
-
-  pub shiftlo_of_form : (figures_of p).shiftlo ≡ p.shiftlo
-  unfolding figures_of
-  shiftlo_of_form = refl
-
-  pub shifthi_of_form : (figures_of p).shifthi ≡ p.shifthi
-  unfolding figures_of
-  shifthi_of_form = refl
 
 -- the eleventh question as a test: true exactly where it is met, false exactly where it is not
 

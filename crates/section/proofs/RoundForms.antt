@@ -8,14 +8,16 @@ use borrow.Author.Tests.{leb-true, leb-false}
 use lib.Dec.{leb}
 use Rattle.pair.proofs.Numbers.{by_test}
 use Rattle.pair.proofs.Laws.{smaller_first, smaller_second, smaller-NotAbove}
+use Rattle.pair.specs.Pairs.{root}
 use Rattle.pair.specs.declared.Pair.{Pair}
+use Rattle.section.specs.declared.Common.{Common}
 use Rattle.section.specs.declared.Flange.{Flange}
 use Rattle.section.specs.declared.Member.{Member}
 use Rattle.section.specs.declared.Stiffener.{Stiffener}
 use Rattle.pair.specs.declared.Both.{Both}
 use Rattle.section.specs.declared.RefinedFlange.{RefinedFlange}
-use Rattle.section.specs.Working.{constant, whole, flange_of, stiffener_of, χ_of, refined_flange, round, rounds}
-use Rattle.section.specs.Parts.{Fine, lowered_round, factors, own_factors}
+use Rattle.section.specs.Working.{scale_of, constant, whole, flange_of, stiffener_of, ud, χ, χ_of, refined_flange, round, rounds}
+use Rattle.section.specs.Parts.{Fine, fourth_of, lowered_round, factors, factors_of, own_factors}
 use Rattle.section.specs.Room.{Factor, FactorsMost, FactorsRoom, RoundRoom, Steady, AtMostOwn}
 use Rattle.section.proofs.Factor.{χ-NotAbove-one}
 use Rattle.section.proofs.BoxRooms.{one_box, box_factor}
@@ -27,6 +29,11 @@ one-Factor f = box_factor f (one_box f)
 pub own_width : (n : ℕ) (t fyb cp bp : Pair) {f : Flange} → f ≡ flange_of n t fyb cp bp → f ≡ flange_of n t fyb cp f.bp
 unfolding flange_of
 own_width n t fyb cp bp e = e ∙ sym (ap (λ (x : Flange). flange_of n t fyb cp x.bp) e)
+
+-- a flange's factor, from the fourth power of its ud
+pub factor_is : (n : ℕ) (y : Common) (kf g o : Pair) (s : Stiffener) → χ_of n y kf g o s ≡ χ n (root (scale_of n) (root (scale_of n) (fourth_of n y kf g o s)))
+unfolding χ_of ud
+factor_is n y kf g o s = refl
 
 -- the factors of every round are at most 1
 pub factors_most : {n : ℕ} {x : Member} → Fine n → Steady n x → (i : ℕ) → FactorsMost n (rounds n x i)
@@ -87,6 +94,14 @@ module _ (n : ℕ) (x : Member) where
     two = record { stiffener = r.two.stiffener; chi = smaller_second h.two i };
   }
 
+-- both flanges' stiffeners, from the factors before
+abbrev both : ℕ → Member → Pair → Pair → Both Stiffener
+both n x χ₁ χ₂ = record { one = stiffener_of n x.common.cp x.flanges.one χ₁; two = stiffener_of n x.common.cp x.flanges.two χ₂ }
+
+-- a round, as it is worked
+pub round_is : (n : ℕ) (x : Member) (χ₁ χ₂ : Pair) → round n x χ₁ χ₂ ≡ lowered_round (factors_of n x (both n x χ₁ χ₂)) χ₁ χ₂
+round_is n x χ₁ χ₂ = sym (round_from n x χ₁ χ₂ refl refl)
+
 module _ (n : ℕ) (x : Member) where
   -- equal stiffeners of equally wide flanges have room where both have
   pub equal_room : {s₁ s₂ : Stiffener} → FactorsRoom n x.common x.flanges.one.bp x.flanges.two.bp s₁ s₂ → x.flanges.one.bp ≡ x.flanges.two.bp → s₁ ≡ s₂
@@ -96,36 +111,23 @@ module _ (n : ℕ) (x : Member) where
       (subst (λ (b : Pair). FactorsRoom n x.common x.flanges.one.bp b s₁ s₂) (sym wide) r)
 
   -- a round whose stiffeners are those of the round before is that round
-  pub stays : (r : Both RefinedFlange) {s₁ s₂ : Stiffener} → AtMostOwn n x r
-      → s₁ ≡ stiffener_of n x.common.cp x.flanges.one r.one.chi → s₂ ≡ stiffener_of n x.common.cp x.flanges.two r.two.chi
-      → s₁ ≡ r.one.stiffener → s₂ ≡ r.two.stiffener → r ≡ round n x r.one.chi r.two.chi
-  stays r h e₁ e₂ g₁ g₂ = sym (lowered_again n x r h) ∙ round_from n x r.one.chi r.two.chi (sym g₁ ∙ e₁) (sym g₂ ∙ e₂)
-
-  -- a round, from its stiffeners
-  pub round_is : (r : Both RefinedFlange) {r₁ r₂ : Both RefinedFlange} {s₁ s₂ : Stiffener}
-      → s₁ ≡ stiffener_of n x.common.cp x.flanges.one r.one.chi → s₂ ≡ stiffener_of n x.common.cp x.flanges.two r.two.chi
-      → r₁ ≡ factors n x.common x.flanges.one.bp x.flanges.two.bp s₁ s₂ → r₂ ≡ lowered_round r₁ r.one.chi r.two.chi → r₂ ≡ round n x r.one.chi r.two.chi
-  round_is r e₁ e₂ g h = h ∙ ap (λ (y : Both RefinedFlange). lowered_round y r.one.chi r.two.chi) g ∙ round_from n x r.one.chi r.two.chi e₁ e₂
+  pub stays : (r : Both RefinedFlange) → AtMostOwn n x r → stiffener_of n x.common.cp x.flanges.one r.one.chi ≡ r.one.stiffener
+      → stiffener_of n x.common.cp x.flanges.two r.two.chi ≡ r.two.stiffener → r ≡ round n x r.one.chi r.two.chi
+  stays r h e₁ e₂ = sym (lowered_again n x r h) ∙ round_from n x r.one.chi r.two.chi (sym e₁) (sym e₂)
 
   module _ (f : Fine n) (h : Steady n x) where
     -- the first working has room
-    pub first_room : RoundRoom n x (whole n 1) (whole n 1)
-    first_room = h.room _ _ (one-Factor f) (one-Factor f)
+    pub first_room : {χ : Pair} → χ ≡ whole n 1 → RoundRoom n x χ χ
+    first_room e = rw e (h.room _ _ (one-Factor f) (one-Factor f))
 
     -- and so has the round behind each
-    pub next_room : (i : ℕ) {r : Both RefinedFlange} → r ≡ rounds n x i → RoundRoom n x r.one.chi r.two.chi × AtMostOwn n x r
-    next_room i e =
-        let most : FactorsMost n (rounds n x i) = factors_most f h i in
-        rw e (h.room _ _ most.one most.two, at_most_own n x i refl)
+    pub next_room : (i : ℕ) {r : Both RefinedFlange} → r ≡ rounds n x i → RoundRoom n x r.one.chi r.two.chi
+    next_room i e = let most : FactorsMost n (rounds n x i) = factors_most f h i in rw e (h.room _ _ most.one most.two)
 
-  -- the first working, from its stiffeners
-  pub first_is : 0 < n → {χ : Pair} {s₁ s₂ : Stiffener} {r : Both RefinedFlange} → χ ≡ whole n 1
-      → s₁ ≡ stiffener_of n x.common.cp x.flanges.one χ → s₂ ≡ stiffener_of n x.common.cp x.flanges.two χ
-      → r ≡ factors n x.common x.flanges.one.bp x.flanges.two.bp s₁ s₂ → r ≡ rounds n x 0
+  -- the first working, as it is worked
+  pub first_is : 0 < n → rounds n x 0 ≡ factors_of n x (both n x (whole n 1) (whole n 1))
   unfolding rounds round refined_flange
-  first_is n⁺ e e₁ e₂ g =
-      g ∙ (λ i. factors n x.common x.flanges.one.bp x.flanges.two.bp ((e₁ ∙ ap (stiffener_of n x.common.cp x.flanges.one) e) i) ((e₂ ∙ ap (stiffener_of n x.common.cp x.flanges.two) e) i))
-      ∙ first_factors n x n⁺
+  first_is n⁺ = sym (first_factors n x n⁺)
 
   -- a round that leaves both factors as they were is the last
   pub settled_is : (i times : ℕ) {r r' : Both RefinedFlange} → r ≡ rounds n x i → r' ≡ round n x r.one.chi r.two.chi

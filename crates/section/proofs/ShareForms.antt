@@ -13,6 +13,8 @@ use Rattle.section.specs.Working.{scale_of, whole, units, ρ_at, ρ, ρ_plane, �
 use Rattle.section.specs.Parts.{Fine}
 use Rattle.section.specs.Room.{Slim}
 use Rattle.section.specs.declared.curve.Curve.{Curve}
+use Rattle.section.specs.declared.factors.Slenderness.{Slenderness}
+use Rattle.section.proofs.Ends.{scale-Fine}
 use Rattle.section.proofs.BoxRooms.{constant_box}
 
 -- one end of a slenderness, with the limit and the number taken off that its ρ has
@@ -23,18 +25,18 @@ pub record Share (n limit less u : ℕ) : Type 0 where
   pub high : limit ≤ 1000000 * n
   pub twice : 2 * less ≤ limit
 
-module _ {n : ℕ} {u : Pair} (f : Fine n) (s : Slim n u) (c : Curve) where
-  pub upper_end : Share n (n * c.full) (n * c.less) u.hi
+module _ (x : Slenderness) (c : Curve) where
+  pub upper_end : Share x.scale.fineness (x.scale.fineness * c.full) (x.scale.fineness * c.less) x.u.hi
   upper_end = record {
-    fine = f;
-    most = s.most;
-    low = omega (arith, mul-le-mul_left n c.low);
-    high = omega (arith, mul-le-mul_left n c.high);
-    twice = omega (arith, mul-le-mul_left n c.twice);
+    fine = scale-Fine x.scale;
+    most = x.most;
+    low = omega (arith, mul-le-mul_left x.scale.fineness c.low);
+    high = omega (arith, mul-le-mul_left x.scale.fineness c.high);
+    twice = omega (arith, mul-le-mul_left x.scale.fineness c.twice);
   }
 
-  pub lower_end : Share n (n * c.full) (n * c.less) u.lo
-  lower_end = let e = upper_end in record { fine = e.fine; most = omega (arith, s.order, s.most); low = e.low; high = e.high; twice = e.twice }
+  pub lower_end : Share x.scale.fineness (x.scale.fineness * c.full) (x.scale.fineness * c.less) x.u.lo
+  lower_end = let e = upper_end in record { fine = e.fine; most = omega (arith, x.order, x.most); low = e.low; high = e.high; twice = e.twice }
 
 module _ {n limit less u : ℕ} (r : Share n limit less u) where
   -- rounded down or up
@@ -98,3 +100,5 @@ module _ {n : ℕ} (f : Fine n) (x : Pair) (slim : Slim n (root (scale_of n) x))
   pub full_lip : x.hi ≤ n * 559504 → whole n 1 ≡ ρ_lip n (root (scale_of n) x)
   unfolding ρ_lip
   full_lip h = full_share 748000 559504 refl h (units n 748 1000) (units n 188 1000) (units_748 n)
+
+pub ruleset in_full = (scale-Fine, full_plane, full_lip)

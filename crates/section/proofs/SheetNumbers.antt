@@ -27,8 +27,6 @@ pub record FlangeNumbers (t fyb γ β : ℕ) : Type 0 where
   pub thick : t ≤ 600
   pub strong : fyb ≤ 700
   pub lip_low : 400 ≤ γ
-  pub lip_high : γ ≤ 23950
-  pub lip_slim : γ ≤ 72 * t
   pub low : 1400 ≤ β
   pub high : β ≤ 19950
   pub slim : β ≤ 60 * t

@@ -8,6 +8,6 @@ use Rattle.section.specs.Figures.{Printed}
 unfoldable pub work_of : Worked → Work
 work_of w = record { area = w.area; chi1 = w.χ₁; chi2 = w.χ₂; z = w.z; gross = w.gross_z; shift = w.shift }
 
-unfoldable pub figures_of : Printed → Figures
+abbrev pub figures_of : Printed → Figures
 figures_of p =
     record { area = p.area; axial = p.axial; chi1 = p.chi1; chi2 = p.chi2; shiftlo = p.shiftlo; shifthi = p.shifthi }

@@ -41,6 +41,13 @@ module _ (n : ℕ) where
   abbrev pub fourth_of : Common → Pair → Pair → Pair → Stiffener → Pair
   fourth_of y kf g o s = ud⁴ n (flexibility_of n y.hp kf g o) (inertia_of n (core n y) s) (stress_of n (core n y) (strength n y) s)
 
+  -- the same of both flanges; each has its own kf
+  abbrev pub fourths_of : Member → Both Stiffener → Both Pair
+  fourths_of x y =
+      let g₁ = g n x.flanges.one.bp y.one in
+      let g₂ = g n x.flanges.two.bp y.two in
+      record { one = fourth_of x.common (kf n y.one y.two) g₁ g₂ y.one; two = fourth_of x.common (kf n y.two y.one) g₂ g₁ y.two }
+
   -- a round with the χ that its stiffeners give, from both flanges' widths and these: as the code works it, before the smaller is taken
   unfoldable pub factors : Common → Pair → Pair → Stiffener → Stiffener → Both RefinedFlange
   factors y bp₁ bp₂ s₁ s₂ =
@@ -50,6 +57,10 @@ module _ (n : ℕ) where
         one = record { stiffener = s₁; chi = χ_of n y (kf n s₁ s₂) g₁ g₂ s₁ };
         two = record { stiffener = s₂; chi = χ_of n y (kf n s₂ s₁) g₂ g₁ s₂ };
       }
+
+  -- the same of a member
+  abbrev pub factors_of : Member → Both Stiffener → Both RefinedFlange
+  factors_of x y = factors x.common x.flanges.one.bp x.flanges.two.bp y.one y.two
 
   -- the same from the stiffeners that a round has
   abbrev pub own_factors : Member → Both RefinedFlange → Both RefinedFlange

@@ -179,6 +179,10 @@ module _ (n : ℕ) where
     pub one : FactorRoom y (kf n s₁ s₂) (g n bp₁ s₁) (g n bp₂ s₂) s₁
     pub two : FactorRoom y (kf n s₂ s₁) (g n bp₂ s₂) (g n bp₁ s₁) s₂
 
+  -- the same of a member
+  abbrev pub BothFactorsRoom : Member → Both Stiffener → Type 0
+  BothFactorsRoom x y = FactorsRoom x.common x.flanges.one.bp x.flanges.two.bp y.one y.two
+
   pub record RoundRoom (x : Member) (χ₁ χ₂ : Pair) : Type 0 where
     pub one : StiffenerRoom x.common.cp x.flanges.one χ₁
     pub two : StiffenerRoom x.common.cp x.flanges.two χ₂

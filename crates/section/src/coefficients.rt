@@ -19,6 +19,7 @@ fn coefficient_past(s: Scale, q: Pair) -> Pair
 }
 
 // At one value of q: 0.5 up to 0.35.
+#[tactic(auto, using(crate::proofs::CoefficientForms::at_one_ratio), unfolding(pair::specs::Pairs::exact))]
 fn coefficient_at(s: Scale, q: u64) -> Pair
     requires { q ≤ 600000 * s.fineness }
     ensures { result ≡ k_at s.fineness q }
@@ -26,7 +27,7 @@ fn coefficient_at(s: Scale, q: u64) -> Pair
     if q <= s.fineness * 350_000 {
         return Pair::ratio(1, 2, s.units());
     }
-    coefficient_past(s, Pair { lo: q, hi: q })
+    coefficient_past(s, Pair::exact(q))
 }
 
 // End by end: it rises with q. Past 0.35 each end of the formula rests on the same end of q, so it is

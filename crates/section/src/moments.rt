@@ -3,8 +3,10 @@
 ghost use Rattle.std.specs.Prelude.{◌≡◌, true};
 ghost use Rattle.pair.specs.Fits.{signed_plus_fits};
 ghost use Rattle.pair.specs.SignedPairs.{signed};
-ghost use Rattle.section.specs.Working.{◌⊞◌, kept_length, lip_moment, flange_moment, far_web_moment, near_web_moment, near_lip_moment, moment, z};
-ghost use Rattle.section.specs.SectionRoom.{LengthRoom, LipMomentRoom, FlangeMomentRoom, FarWebRoom, NearWebRoom, NearLipRoom, outer, OuterRoom, WebRoom, MomentRoom, AxisRoom};
+ghost use Rattle.section.specs.Working.{◌⊞◌, kept_length, lip_moment, flange_moment, far_web_moment};
+ghost use Rattle.section.specs.Working.{near_web_moment, near_lip_moment, moment, z};
+ghost use Rattle.section.specs.SectionRoom.{LengthRoom, LipMomentRoom, FlangeMomentRoom, FarWebRoom, NearWebRoom, NearLipRoom};
+ghost use Rattle.section.specs.SectionRoom.{outer, OuterRoom, WebRoom, MomentRoom, AxisRoom};
 
 use crate::{EffectiveParts, Scale};
 use pair::Pair;
@@ -120,7 +122,8 @@ pub fn first_moment(s: Scale, hp: Pair, x: EffectiveParts) -> Signed
 // z, the distance of the neutral axis from flange 1; l is L of the same kept parts.
 #[tactic(auto, unfolding(crate::specs::Working::z))]
 pub fn axis(s: Scale, hp: Pair, x: EffectiveParts, l: Pair) -> Signed
-    requires { AxisRoom s.fineness hp x × (l ≡ kept_length s.fineness x) }
+    requires room { AxisRoom s.fineness hp x }
+    requires length { l ≡ kept_length s.fineness x }
     ensures { result ≡ z s.fineness hp x }
 {
     first_moment(s, hp, x).over(l, s.units())

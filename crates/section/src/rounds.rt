@@ -1,9 +1,10 @@
 // The stiffeners of both flanges, worked and refined. (docs/WORKING.md, 8 to 10.)
 ghost use Rattle.std.specs.Prelude.{◌≡◌};
-ghost use Rattle.section.specs.Working.{flange_of, stiffener_of, kf, g, round, rounds, mm, whole};
-ghost use Rattle.section.specs.Parts.{fourth_of, factors, lowered, lowered_round};
-ghost use Rattle.section.specs.Room.{FlangeRoom, StiffenerRoom, FactorRoom, FactorsRoom, RoundRoom, Steady, AtMostOwn};
+ghost use Rattle.section.specs.Working.{flange_of, stiffener_of, round, rounds, mm, whole};
+ghost use Rattle.section.specs.Parts.{fourth_of, fourths_of, factors, factors_of, lowered, lowered_round};
+ghost use Rattle.section.specs.Room.{FlangeRoom, StiffenerRoom, FactorRoom, FactorsRoom, BothFactorsRoom, RoundRoom, Steady, AtMostOwn};
 
+use crate::factors::Slenderness;
 use crate::{
     Common, Flange, Member, RefinedFlange, Scale, Steel, Stiffener, coefficients, factors,
     stiffeners, widths,
@@ -85,45 +86,35 @@ fn fourth_of(s: Scale, x: Common, kf: Pair, g: Pair, o: Pair, y: Stiffener) -> P
 // The fourth power of each flange's ud; each flange has its own kf (W-201).
 #[tactic(auto, unfolding(crate::specs::Working::kf))]
 fn fourths_of(s: Scale, x: Member, y: Both<Stiffener>) -> Both<Pair>
-    requires { FactorsRoom s.fineness x.common x.flanges.one.bp x.flanges.two.bp y.one y.two }
-    ensures one { result.one ≡ fourth_of s.fineness x.common (kf s.fineness y.one y.two) (g s.fineness x.flanges.one.bp y.one) (g s.fineness x.flanges.two.bp y.two) y.one }
-    ensures two { result.two ≡ fourth_of s.fineness x.common (kf s.fineness y.two y.one) (g s.fineness x.flanges.two.bp y.two) (g s.fineness x.flanges.one.bp y.one) y.two }
+    requires { BothFactorsRoom s.fineness x y }
+    ensures { result ≡ fourths_of s.fineness x y }
 {
     let units = s.units();
-    let g1 = stiffeners::centre(s, x.flanges.one.bp, y.one);
-    let g2 = stiffeners::centre(s, x.flanges.two.bp, y.two);
+    let g = x.flanges.zip(y).map(|(flange, stiffener)| stiffeners::centre(s, flange.bp, stiffener));
     let kf1 = y.two.a.over(y.one.a, units);
     let kf2 = y.one.a.over(y.two.a, units);
     Both {
-        one: fourth_of(s, x.common, kf1, g1, g2, y.one),
-        two: fourth_of(s, x.common, kf2, g2, g1, y.two),
+        one: fourth_of(s, x.common, kf1, g.one, g.two, y.one),
+        two: fourth_of(s, x.common, kf2, g.two, g.one, y.two),
     }
 }
 
-// The factors that both flanges' stiffeners give; both roots are worked side by side.
-#[tactic(auto, unfolding(crate::specs::Working::ud))]
+// The factors that both flanges' stiffeners give, worked for each.
+#[tactic(auto, using(crate::proofs::RoundForms::factor_is), unfolding(crate::specs::Parts::factors, crate::specs::Working::ud))]
 fn unequal_factors(s: Scale, x: Member, y: Both<Stiffener>) -> Both<RefinedFlange>
-    requires { FactorsRoom s.fineness x.common x.flanges.one.bp x.flanges.two.bp y.one y.two }
-    ensures { result ≡ factors s.fineness x.common x.flanges.one.bp x.flanges.two.bp y.one y.two }
+    requires { BothFactorsRoom s.fineness x y }
+    ensures { result ≡ factors_of s.fineness x y }
 {
     let units = s.units();
-    let fourths = fourths_of(s, x, y);
-    let squares = fourths.one.roots(fourths.two, units);
-    let u = squares.one.roots(squares.two, units);
-    Both {
-        one: RefinedFlange {
-            stiffener: y.one,
-            chi: factors::factor(s, u.one),
-        },
-        two: RefinedFlange {
-            stiffener: y.two,
-            chi: factors::factor(s, u.two),
-        },
-    }
+    let u = fourths_of(s, x, y).map(|fourth| fourth.root(units).root(units));
+    y.zip(u).map(|(stiffener, u)| RefinedFlange {
+        stiffener,
+        chi: Slenderness::new(s, u).factor(),
+    })
 }
 
 // The factors of two equally wide flanges with one stiffener, worked once.
-#[tactic(auto, unfolding(crate::specs::Working::kf, crate::specs::Working::ud))]
+#[tactic(auto, using(crate::proofs::RoundForms::factor_is), unfolding(crate::specs::Parts::factors, crate::specs::Working::kf, crate::specs::Working::ud))]
 fn equal_factors(s: Scale, common: Common, bp: Pair, y: Stiffener) -> Both<RefinedFlange>
     requires { FactorsRoom s.fineness common bp bp y y }
     ensures { result ≡ factors s.fineness common bp bp y y }
@@ -132,17 +123,18 @@ fn equal_factors(s: Scale, common: Common, bp: Pair, y: Stiffener) -> Both<Refin
     let g = stiffeners::centre(s, bp, y);
     let kf = y.a.over(y.a, units);
     let fourth = fourth_of(s, common, kf, g, g, y);
+    let u = fourth.root(units).root(units);
     let one = RefinedFlange {
         stiffener: y,
-        chi: factors::factor(s, fourth.root(units).root(units)),
+        chi: Slenderness::new(s, u).factor(),
     };
     Both { one, two: one }
 }
 
 // The factors that both flanges' stiffeners give.
 fn factors_of(s: Scale, x: Member, y: Both<Stiffener>) -> Both<RefinedFlange>
-    requires { FactorsRoom s.fineness x.common x.flanges.one.bp x.flanges.two.bp y.one y.two }
-    ensures { result ≡ factors s.fineness x.common x.flanges.one.bp x.flanges.two.bp y.one y.two }
+    requires { BothFactorsRoom s.fineness x y }
+    ensures { result ≡ factors_of s.fineness x y }
 {
     if x.flanges.one.bp == x.flanges.two.bp && y.one == y.two {
         return equal_factors(s, x.common, x.flanges.one.bp, y.one);
@@ -164,30 +156,26 @@ fn lowered(new: RefinedFlange, last: RefinedFlange) -> RefinedFlange
 fn lowered_round(new: Both<RefinedFlange>, last: Both<RefinedFlange>) -> Both<RefinedFlange>
     ensures { result ≡ lowered_round new last.one.chi last.two.chi }
 {
-    Both {
-        one: lowered(new.one, last.one),
-        two: lowered(new.two, last.two),
-    }
+    new.zip(last).map(|(n, l)| lowered(n, l))
 }
 
 // The round behind another. Where both stiffeners stay, it is the same round: the factors that it has
 // are at most those that its stiffeners give, so they are the smaller again.
+#[tactic(auto, using(crate::proofs::RoundForms::round_is))]
 fn next_round(s: Scale, x: Member, last: Both<RefinedFlange>) -> Both<RefinedFlange>
-    requires { RoundRoom s.fineness x last.one.chi last.two.chi × AtMostOwn s.fineness x last }
+    requires room { RoundRoom s.fineness x last.one.chi last.two.chi }
+    requires own { AtMostOwn s.fineness x last }
     ensures { result ≡ round s.fineness x last.one.chi last.two.chi }
 {
-    let before = Both {
-        one: last.one.chi,
-        two: last.two.chi,
-    };
-    let stiffeners = stiffeners_of(s, x, before);
-    if stiffeners.one == last.one.stiffener && stiffeners.two == last.two.stiffener {
+    let stiffeners = stiffeners_of(s, x, last.map(|flange| flange.chi));
+    if stiffeners == last.map(|flange| flange.stiffener) {
         return last;
     }
     lowered_round(factors_of(s, x, stiffeners), last)
 }
 
 // The first working, with all factors 1: no factor is above that, so nothing is lowered.
+#[tactic(auto, using(crate::proofs::RoundForms::first_is))]
 pub fn first_round(s: Scale, x: Member) -> Both<RefinedFlange>
     requires { Steady s.fineness x }
     ensures { result ≡ rounds s.fineness x 0 }
@@ -200,13 +188,14 @@ pub fn first_round(s: Scale, x: Member) -> Both<RefinedFlange>
 // As many refining rounds as the sheet says, from the first working. A round that leaves both factors
 // as they were is the last: the next would be the same.
 pub fn refined(s: Scale, x: Member, first: Both<RefinedFlange>, times: u64) -> Both<RefinedFlange>
-    requires { Steady s.fineness x × (first ≡ rounds s.fineness x 0) }
+    requires steady { Steady s.fineness x }
+    requires first { first ≡ rounds s.fineness x 0 }
     ensures { result ≡ rounds s.fineness x times }
 {
     let mut r = first;
     for _ in 0..times {
         let next = next_round(s, x, r);
-        if next.one.chi == r.one.chi && next.two.chi == r.two.chi {
+        if next.map(|flange| flange.chi) == r.map(|flange| flange.chi) {
             return next;
         }
         r = next;

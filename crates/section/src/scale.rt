@@ -13,6 +13,7 @@ pub struct Scale {
 }
 
 impl Scale {
+    // How many units are in 1.
     pub fn units(self) -> u64
         ensures { result ≡ scale_of self.fineness }
     {

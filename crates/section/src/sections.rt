@@ -6,9 +6,10 @@ ghost use Rattle.section.specs.Forms.{work_of};
 ghost use Rattle.section.specs.Room.{MidRoom, LipRoom};
 ghost use Rattle.section.specs.SectionRoom.{WebKeptRoom, EffectiveRoom, FullFlangeRoom, FullRoom, SheetRoom};
 
+use crate::factors::Slenderness;
 use crate::{
     Common, EffectiveFlange, EffectiveParts, Member, MidLines, RefinedFlange, Scale, Sheet, Steel,
-    Stiffener, Work, factors, moments, rounds, widths,
+    Stiffener, Work, moments, rounds, widths,
 };
 use pair::{Both, Pair};
 
@@ -19,7 +20,7 @@ fn web_kept(s: Scale, y: Common) -> Pair
     ensures { result ≡ web_kept s.fineness y }
 {
     let u = widths::plane_slenderness_squared(s, y.steel, y.hp).root(s.units());
-    widths::half_kept(s, factors::plane_share(s, u), y.hp)
+    widths::half_kept(s, Slenderness::new(s, u).plane_share(), y.hp)
 }
 
 // What counts of a flange, from the first working and the last: be1 is that of the first and stays.
@@ -42,10 +43,8 @@ fn effective_section(s: Scale, x: Member, times: u64) -> EffectiveParts
     let first = rounds::first_round(s, x);
     let last = rounds::refined(s, x, first, times);
     let he = web_kept(s, x.common);
-    let one = effective_flange(first.one, last.one);
-    let two = effective_flange(first.two, last.two);
     EffectiveParts {
-        flanges: Both { one, two },
+        flanges: first.zip(last).map(|(f, l)| effective_flange(f, l)),
         p: he,
         m: he,
     }
@@ -75,15 +74,14 @@ pub fn full_section(s: Scale, l: MidLines) -> EffectiveParts
     ensures { result ≡ full s.fineness l.hp l.cp l.bp.one l.bp.two }
 {
     let he = l.hp.over_ratio(2, 1, s.units());
-    let one = full_flange(s, l.cp, l.bp.one);
-    let two = full_flange(s, l.cp, l.bp.two);
     EffectiveParts {
-        flanges: Both { one, two },
+        flanges: l.bp.map(|bp| full_flange(s, l.cp, bp)),
         p: he,
         m: he,
     }
 }
 
+// The mid-line lengths of a sheet.
 pub fn lines_of(s: Scale, q: Sheet) -> MidLines
     requires hp { MidRoom s.fineness q.h q.tnom.0 }
     requires cp { LipRoom s.fineness q.c q.tnom.0 }
@@ -91,13 +89,14 @@ pub fn lines_of(s: Scale, q: Sheet) -> MidLines
     requires two { MidRoom s.fineness q.b2 q.tnom.0 }
     ensures { result ≡ mid_lines s.fineness q }
 {
+    let outer = Both {
+        one: q.b1,
+        two: q.b2,
+    };
     MidLines {
         hp: widths::mid_line(s, q.h, q.tnom),
         cp: widths::lip_line(s, q.c, q.tnom),
-        bp: Both {
-            one: widths::mid_line(s, q.b1, q.tnom),
-            two: widths::mid_line(s, q.b2, q.tnom),
-        },
+        bp: outer.map(|b| widths::mid_line(s, b, q.tnom)),
     }
 }
 

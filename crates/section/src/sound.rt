@@ -12,6 +12,7 @@ use pair::Pair;
 use pair::signed::{self, Signed};
 use pair::wide::{self, Down};
 
+// A sheet that meets the questions on its numbers, 2 to 10.
 #[derive(Clone, Copy, Debug, PartialEq, Eq)]
 pub struct SoundSheet {
     pub sheet: Sheet,
@@ -28,6 +29,7 @@ pub struct WorkedSheet {
 }
 
 impl SoundSheet {
+    // Its working at the scale s.
     pub fn work(self, s: Scale) -> WorkedSheet
         ensures scale { result.scale.fineness ≡ s.fineness }
         ensures sheet { result.sheet.sheet ≡ self.sheet }
@@ -74,6 +76,7 @@ impl WorkedSheet {
     }
 
     // The lower end of the area times fyb over the partial factor, in newtons, rounded down once.
+    #[tactic(auto, using(crate::proofs::Printing::axial_steps))]
     fn axial(&self) -> u64
         ensures { result ≡ (figures self.now.scale.fineness self.now.sheet.sheet).axial }
     {
@@ -97,6 +100,7 @@ impl WorkedSheet {
     }
 
     // Whether the area's upper end is at most area + allow, the eleventh question.
+    #[tactic(auto, using(crate::proofs::Printing::allowance_steps), unfolding(crate::specs::Figures::allowed))]
     pub fn within_allowance(&self) -> bool
         ensures { result ≡ allowed self.now.scale.fineness self.now.sheet.sheet }
     {

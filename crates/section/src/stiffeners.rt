@@ -2,7 +2,8 @@
 // (docs/WORKING.md, 8 to 10.)
 ghost use Rattle.std.specs.Prelude.{◌≡◌};
 ghost use Rattle.section.specs.Working.{constant, ◌⊗◌, ◌⊘◌, g, inertia_of, stress_of, flexibility_of, ud⁴, mm, whole};
-ghost use Rattle.section.specs.Room.{CentreRoom, PlateRoom, CubeRoom, FarLipRoom, InertiaRoom, StressRoom, CrossRoom, BendRoom, LoadRoom, UdRoom};
+ghost use Rattle.section.specs.Room.{CentreRoom, PlateRoom, CubeRoom, FarLipRoom, InertiaRoom};
+ghost use Rattle.section.specs.Room.{StressRoom, CrossRoom, BendRoom, LoadRoom, UdRoom};
 
 use crate::{Core, Scale, Steel, Stiffener, widths};
 use pair::Pair;

@@ -9,13 +9,10 @@ ghost use Rattle.section.specs.Sound.{Sound};
 use certificate::verdicts;
 use questions::answers::Reason;
 use section::{SHEET_LINES, Sheet, SoundSheet};
-use std::io;
+use std::{array, io};
 
 fn sheet_in(line: &str) -> Sheet {
-    let mut numbers = [0; SHEET_LINES];
-    for (i, number) in numbers.iter_mut().enumerate() {
-        *number = cases::number(line, i);
-    }
+    let numbers: [u64; SHEET_LINES] = array::from_fn(|i| cases::number(line, i));
     Sheet::from(numbers)
 }
 

@@ -16,7 +16,8 @@ use Rattle.catalogue.specs.declared.counting.LineCount.{LineCount}
 use Rattle.catalogue.specs.Forms.{sheets_counted}
 use Rattle.catalogue.specs.Catalogues.{most_sheets, longest_report, sheets_in}
 use Rattle.catalogue.specs.Refusals.{report_answer}
-use Rattle.catalogue.proofs.Laws.{counted_exactly, counted_over, cut_catalogue, report_numbered, sheets_count, too_many_refused}
+use Rattle.catalogue.specs.Outcome.{report_outcome}
+use Rattle.catalogue.proofs.Laws.{counted_exactly, counted_over, cut_catalogue, sheets_count, too_many_refused}
 use Rattle.report.proofs.Laws.{refused_prints}
 use Rattle.survey.specs.Printed.{survey_prints, kept_prints}
 use Rattle.survey.specs.Inputs.{most_kept, Read}
@@ -29,7 +30,7 @@ survey_cut s m few h = ap (outcome_prints report_answer) (cut_catalogue s m long
 -- where there are, the lines of their refusal are printed, so no byte behind those that have too many already
 pub prints_over : (s : List ℕ) → most_sheets < length (sheets_in s) → survey_prints s ≡ refusal_lines (report_answer SheetCount)
 unfolding survey_prints
-prints_over s h = ap (outcome_prints report_answer) (too_many_refused s longest_report h) ∙ refused_prints report_answer report_numbered SheetCount
+prints_over s h = ap (outcome_prints report_answer) (too_many_refused s longest_report h) ∙ refused_prints report_answer SheetCount
 
 pub survey_over : (s t : List ℕ) → most_sheets < length (sheets_in s) → survey_prints (s ++ t) ≡ survey_prints s
 survey_over s t h =
@@ -44,6 +45,12 @@ module _ (kept : List ℕ) (lines : LineCount) where
   pub not_too_many : sheets_counted lines ≤ most_sheets → kept_prints kept lines ≡ survey_prints kept
   unfolding kept_prints
   not_too_many h = rw (le-ltb most_sheets (sheets_counted lines) h)
+
+  -- in a buffer of the room of the longest report
+  pub survey_printed : (b : List ℕ) → 27088 ≡ length b → sheets_counted lines ≤ most_sheets
+      → outcome_prints report_answer (report_outcome kept (length b)) ≡ kept_prints kept lines
+  unfolding survey_prints
+  survey_printed b e few = ap (λ (n : ℕ). outcome_prints report_answer (report_outcome kept n)) (sym e) ∙ sym (not_too_many few)
 
   -- it is what is printed for the input
   pub kept_decides : (s : List ℕ) → Read s kept lines → kept_prints kept lines ≡ survey_prints s

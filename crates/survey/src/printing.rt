@@ -4,7 +4,7 @@ ghost use Rattle.questions.specs.Buffers.{over};
 ghost use Rattle.survey.specs.Printed.{kept_prints};
 
 use catalogue::counting::LineCount;
-use catalogue::{LONGEST_REPORT, MOST_SHEETS, ReportRefusal, counting, reports};
+use catalogue::{LONGEST_REPORT, MOST_SHEETS, ReportRefusal, reports};
 use questions::answers::Reason;
 use report::printing;
 
@@ -16,13 +16,8 @@ pub fn survey_prints(kept: &[u8], lines: LineCount, out: &mut [u8; LONGEST_REPOR
     ensures out_after { out.new ≡ over (kept_prints kept.now lines) out.old }
     ensures room { 27088 ≡ length out.new }
 {
-    if MOST_SHEETS < counting::sheet_count(lines) {
-        let many = ReportRefusal::SheetCount.told();
-        return printing::put_refusal(out, many);
+    if MOST_SHEETS < lines.sheet_count() {
+        return printing::put_refusal(out, ReportRefusal::SheetCount.told());
     }
-    let answer = reports::report(kept, out);
-    if answer.refusal != 0 {
-        return printing::put_refusal(out, answer);
-    }
-    answer.length as usize
+    printing::outcome_prints(reports::survey(kept, out), out)
 }

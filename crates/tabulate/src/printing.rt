@@ -5,6 +5,7 @@ ghost use Rattle.tabulate.specs.Printed.{tabulate_prints};
 use lip_table::{TABLE_LENGTH, tables};
 
 // The table, which fits the room given.
+#[tactic(auto, using(lip_table::proofs::Laws::table_fills))]
 pub fn tabulate_prints() -> [u8; TABLE_LENGTH]
     ensures { result ≡ tabulate_prints }
 {

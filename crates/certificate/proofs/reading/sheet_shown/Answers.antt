@@ -1,25 +1,30 @@
-use mathlib.Core.List.{map}
-use mathlib.Core.Path.{◌≡◌, sym, ◌∙◌}
+use Prim.Native.Nat.{ℕ, ◌<◌}
+use mathlib.Core.List.{List}
+use mathlib.Core.Path.{◌≡◌, ap, ◌∙◌}
 use native.Mathlib.Omega.{arith}
-use lib.IntN.{nat_abs, pos}
-use lib.ListN.{length-set, get_or, get_or-map}
-use Rattle.std.proofs.Common.{rules}
-use Rattle.section.proofs.Laws.{same_values}
+use lib.IntN.{ℤ, pos, nat_abs}
+use lib.ListN.{length, get_or}
+use Rattle.std.proofs.lemmas.List.{get_or-take}
+use Rattle.section.specs.Sheets.{sheet_of, sheet_lines}
 use Rattle.certificate.specs.Certificates.{sheet_shown}
-use Rattle.certificate.proofs.Arrays.{number_put}
+use Rattle.certificate.proofs.Arrays.{callable, mapped}
+use Rattle.certificate.proofs.Shown.{front_shown}
 use Rattle.certificate.proofs.reading.sheet_shown.Goals as goal
 
-pub loop-i-preserved : goal.loop-i-preserved
-loop-i-preserved c =
-    let h = c.loop-i in
+pub map-requires : goal.map-requires
+map-requires c =
     let vs = c.args.values.now in
-    let size : c.unsigned_abs.result ≡ nat_abs (get_or vs h.i (pos 0)) = search rules in (
-      length-set h.numbers h.i _ ∙ h.invariant.0,
-      number_put h.numbers (map nat_abs vs) h.i _ (omega (arith, h.invariant.0)) (size ∙ sym (get_or-map nat_abs vs h.i (pos 0))) h.invariant.1,
-    )
+    let s = c.copy_from_slice.new.self in
+    let front : (i : ℕ) → i < length s → get_or s i (pos 0) ≡ get_or vs i (pos 0) =
+    λ i h.
+    let below : i < sheet_lines = omega (arith, h, c.copy_from_slice.ensures.len) in
+    ap (λ (l : List ℤ). get_or l i (pos 0)) c.copy_from_slice.ensures.after ∙ get_or-take sheet_lines vs i (pos 0) below in
+    (omega arith, (omega arith, (omega arith, callable s (pos 0) (λ q i h. omega (arith, ap nat_abs (front i h), c.requires.words i)))))
 
 pub returns : goal.returns
 unfolding sheet_shown
 returns c =
-    let h = c.loop-i in
-    c.from.ensures ∙ same_values h.numbers (map nat_abs c.args.values.now) (λ j g. h.invariant.1 j (omega (arith, g, c.loop-i-test.false)))
+    c.from.ensures
+    ∙ ap sheet_of (mapped nat_abs (pos 0) c.map.ensures.items c.copy_from_slice.ensures.len (λ p q x y k. k.met))
+    ∙ ap sheet_shown c.copy_from_slice.ensures.after
+    ∙ front_shown c.args.values.now

@@ -3,10 +3,6 @@ use Rattle.std.proofs.lemmas.Slice.{overwrites}
 use Rattle.questions.specs.Buffers.{over}
 use Rattle.lines.proofs.texts.put_behind.Goals as goal
 
-pub returns-clause-front : goal.returns-clause-front
-unfolding over
-returns-clause-front g c = search (rules, overwrites)
-
 pub returns-clause-rest : goal.returns-clause-rest
 unfolding over
 returns-clause-rest g c = search (rules, overwrites)

@@ -15,4 +15,4 @@ returns c =
     let l : least_ratio ≤ a = grind (arith, common_steps) in
     let h : a ≤ most_ratio = grind (arith, common_steps) in
     let above : c.div_ceil-above.result ≡ entry_above a = omega (arith, c.div_ceil-above.ensures) in
-    ends_found a l h c.table-table.ensures (omega arith) above (omega (arith, below_near a, h)) (omega (arith, above_near a, above, h))
+    ends_found a _ l h c.table-table.ensures (omega arith) above (omega (arith, below_near a, h)) (omega (arith, above_near a, above, h))

@@ -4,15 +4,18 @@ use Rattle.pair.proofs.Fitting.{root_out}
 use Rattle.pair.proofs.Extraction.{square_rooted, square_down}
 use Rattle.pair.proofs.Pair.root.Goals as goal
 
+pub invariant_of-s : goal.invariant_of-s
+invariant_of-s c = record { digits = (root_out c.args.s c.args.self c.requires).1 }
+
 pub scaled-below-requires : goal.scaled-below-requires
 scaled-below-requires c =
     let fit = root_out c.args.s c.args.self c.requires in
-    record { scale = fit.1; fits = lt_of_le_of_lt (mul-le-mul_right c.args.s fit.0) fit.2 }
+    lt_of_le_of_lt (mul-le-mul_right c.args.s fit.0) fit.2
 
 pub above-requires : goal.above-requires
 above-requires c =
     let fit = root_out c.args.s c.args.self c.requires in
-    record { order = fit.0; scale = fit.1; fits = fit.2; taken = c.scaled-below.ensures }
+    record { order = fit.0; fits = fit.2; taken = c.scaled-below.ensures }
 
 pub returns : goal.returns
 unfolding root

@@ -1,10 +1,9 @@
-use Rattle.std.proofs.Common.{◌≡◌, ◌+◌, ◌++◌, length, take, drop}
+use Rattle.std.proofs.Common.{◌≡◌}
 use Rattle.std.specs.Slice.Iter.{chunks_rest, chunks_size}
-use Rattle.questions.specs.Buffers.{over}
 use Rattle.lines.specs.Runs.{runs, rows_text}
+use Rattle.lines.proofs.LentParts.{Writing}
 use Rattle.lines.proofs.rows.RowsText.put.Given as goal
 
--- what is written so far stands in front, and what is left goes behind it
 abbrev pub invariant-loop-row : goal.invariant-loop-row
 invariant-loop-row l =
     let left = rows_text (runs l.self.width (chunks_rest l.row-iterator)) in
@@ -12,6 +11,4 @@ invariant-loop-row l =
     (goal.iterator-loop-row).can_next l.row-iterator
     × (goal.iterator-loop-row).is_finite l.row-iterator
     × (chunks_size l.row-iterator ≡ l.self.width)
-    × (l.at + length left ≡ length whole)
-    × (length l.out ≡ length l.initial.out)
-    × (take l.at l.out ++ over left (drop l.at l.out) ≡ over whole l.initial.out)
+    × Writing left whole l.initial.out l.at l.out

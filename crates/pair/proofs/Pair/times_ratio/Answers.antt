@@ -1,9 +1,0 @@
-use Rattle.pair.proofs.Outward.{floor_asked, ceil_asked}
-use Rattle.pair.proofs.Ratios.{times_by_ratio}
-use Rattle.pair.proofs.Pair.times_ratio.Goals as goal
-
-pub by-requires : goal.by-requires
-by-requires c = let asked = floor_asked (times_by_ratio _ _ _ _ c.requires) in record { some = asked.0; fits = asked.1 }
-
-pub by-requires-2 : goal.by-requires-2
-by-requires-2 c = let asked = ceil_asked (times_by_ratio _ _ _ _ c.requires) in record { some = asked.0; fits = asked.1 }
