@@ -15,6 +15,7 @@ use certificate::certificates;
 use lip_table::{Coefficient, lookups, tables};
 use questions::Answer;
 
+// The certificate of a sheet's bytes, into the buffer.
 #[unsafe(no_mangle)]
 pub extern "C" fn hm_certificate_write(sheet: &[u8], buffer: &mut [u8]) -> Answer
     ensures value { result ≡ answer_in refusal_answer (outcome sheet.now) buffer.old }
@@ -23,6 +24,7 @@ pub extern "C" fn hm_certificate_write(sheet: &[u8], buffer: &mut [u8]) -> Answe
     certificates::write(sheet, buffer)
 }
 
+// Whether a certificate is the one written for its own sheet.
 #[unsafe(no_mangle)]
 pub extern "C" fn hm_certificate_check(certificate: &[u8]) -> Answer
     ensures { result ≡ answer_of refusal_answer (check_outcome certificate.now) }
@@ -30,7 +32,7 @@ pub extern "C" fn hm_certificate_check(certificate: &[u8]) -> Answer
     certificates::check(certificate)
 }
 
-// form is 0 for C and 1 for Z.
+// The certificate of a sheet's numbers, into the buffer; form is 0 for C and 1 for Z.
 #[unsafe(no_mangle)]
 pub extern "C" fn hm_certificate_from_numbers(
     form: u64,

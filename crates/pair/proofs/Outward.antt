@@ -8,7 +8,7 @@ use Rattle.pair.specs.Rounding.{ceil_div}
 use Rattle.pair.specs.Pairs.{times, over}
 use Rattle.pair.specs.Fits.{times_fits, over_fits}
 use Rattle.pair.specs.declared.Pair.{Pair}
-use Rattle.pair.proofs.Fitting.{Words, times_out, over_out}
+use Rattle.pair.proofs.Fitting.{Words, times_out, over_out, times_some, over_some, over_some_above}
 
 pub record Outward (p : Pair) (n d N D : ℕ) (r : Pair) : Type 0 where
   pub low⁺ : 0 < d
@@ -34,3 +34,7 @@ times_outward s p q e = let fit = times_out s p q e in record { low⁺ = fit.0; 
 pub over_outward : (s : ℕ) (p q : Pair) → over_fits s p q ≡ true → Outward p s q.hi s q.lo (over s p q)
 unfolding over
 over_outward s p q e = let fit = over_out s p q e in record { low⁺ = fit.1; high⁺ = fit.0; low = refl; high = refl; fits = fit.2 }
+
+pub ruleset product_outward = (times_outward, outward_is, times_some)
+
+pub ruleset quotient_outward = (over_outward, outward_is, over_some, over_some_above)

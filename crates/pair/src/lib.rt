@@ -14,6 +14,7 @@ ghost use Rattle.pair.specs.Fits.{ratio_fits, plus_fits, minus_fits, times_fits,
 use roots::{Cube, RootScale, Square};
 use wide::{Down, Up};
 
+// A value's lower and upper end, in units of 1/s.
 #[repr(C)]
 #[derive(Clone, Copy, Debug, PartialEq, Eq)]
 pub struct Pair {
@@ -72,6 +73,7 @@ impl Pair {
         Pair::exact(a * s / b)
     }
 
+    // The sum, end by end.
     #[tactic(auto, using(crate::proofs::Fitting::plus_out), unfolding(crate::specs::Pairs::plus))]
     pub fn plus(self, q: Pair) -> Self
         requires { plus_fits self q ≡ true }
@@ -83,6 +85,7 @@ impl Pair {
         }
     }
 
+    // The difference, of which no end lies below zero: from each end the other's other end.
     #[tactic(auto, using(crate::proofs::Fitting::minus_out), unfolding(crate::specs::Pairs::minus))]
     pub fn minus(self, q: Pair) -> Self
         requires { minus_fits self q ≡ true }
@@ -94,7 +97,8 @@ impl Pair {
         }
     }
 
-    #[tactic(auto, using(crate::proofs::Outward::times_outward, crate::proofs::Outward::outward_is, crate::proofs::Fitting::times_some))]
+    // The product, end by end, rounded outward.
+    #[tactic(auto, using(crate::proofs::Outward::product_outward))]
     #[inline]
     pub fn times(self, q: Pair, s: u64) -> Self
         requires { times_fits s self q ≡ true }
@@ -115,7 +119,8 @@ impl Pair {
         }
     }
 
-    #[tactic(auto, using(crate::proofs::Outward::over_outward, crate::proofs::Outward::outward_is, crate::proofs::Fitting::over_some, crate::proofs::Fitting::over_some_above))]
+    // The quotient of the ends that make it smallest and largest, rounded outward.
+    #[tactic(auto, using(crate::proofs::Outward::quotient_outward))]
     pub fn over(self, q: Pair, s: u64) -> Self
         requires { over_fits s self q ≡ true }
         ensures { result ≡ over s self q }
@@ -157,6 +162,7 @@ impl Pair {
         }
     }
 
+    // The cube root, end by end, rounded outward.
     pub fn cube_root(self, s: u64) -> Self
         requires { cube_root_fits s self ≡ true }
         ensures { result ≡ cube_root s self }

@@ -116,6 +116,7 @@ impl Square {
         }
     }
 
+    // The root of n, by the guess or bit by bit.
     pub fn of(n: u64) -> Square
         ensures { square_taken result ≡ n }
     {
@@ -187,6 +188,7 @@ impl Cube {
         Cube::scaled(hi, s).up()
     }
 
+    // The cube root of n, bit by bit.
     pub fn of(n: u64) -> Cube
         ensures { cube_taken result ≡ n }
     {

@@ -96,6 +96,7 @@ impl Signed {
         }
     }
 
+    // The sum, end by end.
     #[tactic(auto, using(crate::proofs::SignedForms::sums), unfolding(crate::specs::SignedPairs::signed_plus))]
     pub fn plus(self, b: Signed) -> Self
         requires { signed_plus_fits self b ≡ true }
@@ -107,6 +108,7 @@ impl Signed {
         }
     }
 
+    // The difference: from each end the other's other end.
     #[tactic(auto, using(crate::proofs::SignedForms::sums), unfolding(crate::specs::SignedPairs::signed_minus))]
     pub fn minus(self, b: Signed) -> Self
         requires { signed_plus_fits self b ≡ true }
@@ -164,6 +166,7 @@ impl Signed {
 
     // The upper end of each result is the lower one on the other side of zero.
 
+    // The product with a pair, rounded outward.
     #[tactic(auto, using(crate::proofs::SignedForms::highs))]
     pub fn times(self, p: Pair, s: u64) -> Self
         requires { signed_times_fits s self (signed p) ≡ true }
@@ -175,6 +178,7 @@ impl Signed {
         }
     }
 
+    // The product of two that may lie below zero, rounded outward.
     #[tactic(auto, using(crate::proofs::SignedForms::highs))]
     pub fn times_signed(self, b: Signed, s: u64) -> Self
         requires { signed_times_fits s self b ≡ true }
@@ -186,6 +190,7 @@ impl Signed {
         }
     }
 
+    // The quotient by a pair above zero, rounded outward.
     #[tactic(auto, using(crate::proofs::SignedForms::highs))]
     pub fn over(self, q: Pair, s: u64) -> Self
         requires { signed_over_fits s self q ≡ true }
