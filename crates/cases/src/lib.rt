@@ -1,77 +1,128 @@
 // What the programs that run cases share: the lines of standard input, and the numbers of a line.
 #![tactic(auto)]
 
-ghost use Rattle.std.specs.Prelude.{◌<◌, ◌^◌, unsigned_abs, List, ℕ, OnOk};
+ghost use Rattle.std.specs.Prelude.{◌<◌, ◌≤◌, ◌≡◌, ◌^◌, unsigned_abs, List, ℕ, OnOk, IfSome, length, ◌==◌, drop, suc};
+ghost use Rattle.std.specs.List.{position_from};
+ghost use Rattle.std.specs.Iterator.{at_most};
 ghost use Rattle.std.specs.Io.KnownBytes.{Consumes};
-ghost use Rattle.cases.specs.Lines.{RunsOn};
+ghost use Rattle.cases.specs.Lines.{FirstLine, RunsOn, end_of_line};
 
 use report::streams;
-use std::io::{ErrorKind, Read};
-use std::{io, str};
+use std::io;
+use std::io::Read;
 
-// Runs `run` on each line of a text, in their order, until one fails.
-pub fn each_line_of<F: FnMut(&str) -> io::Result<()>>(text: &str, run: F) -> io::Result<()>
-    requires { F.IsAlwaysCallable run }
-    ensures { OnOk result (RunsOn F.FnMut run text.now) }
+// The place of the first newline.
+fn first_newline(s: &[u8]) -> Option<usize>
+    ensures value { result ≡ position_from (λ b. b == 10) 0 s.now }
+    ensures within { IfSome result (λ n. n < length s.now) }
 {
-    text.lines().try_for_each(run)
+    s.iter().position(|byte| *byte == b'\n')
+}
+
+// Where the first line ends: at its newline, or with the bytes.
+fn end_of_line(s: &[u8]) -> usize
+    ensures value { result ≡ end_of_line s.now }
+    ensures upper_bound { result ≤ length s.now }
+{
+    first_newline(s).unwrap_or(s.len())
+}
+
+// What stands behind a place, or nothing.
+fn behind(s: &[u8], at: usize) -> &[u8]
+    ensures { result.now ≡ drop (suc at) s.now }
+{
+    if at < s.len() { &s[at + 1..] } else { &[] }
+}
+
+// The lines of some bytes, without their newlines.
+#[derive(Drop)]
+struct Lines<'a> {
+    rest: &'a [u8],
+}
+
+impl<'a> Iterator for Lines<'a> {
+    type Item = &'a [u8];
+
+    ghost remaining = { λ s. at_most (length s.rest.now) };
+
+    ghost next_gives = { λ s r t. FirstLine s.rest.now r t.rest.now };
+
+    fn next(&mut self) -> Option<&'a [u8]> {
+        if self.rest.is_empty() {
+            return None;
+        }
+        let end = end_of_line(self.rest);
+        let line = &self.rest[..end];
+        self.rest = behind(self.rest, end);
+        Some(line)
+    }
+}
+
+// Runs `run` on each line of some bytes, in their order, until one fails.
+pub fn each_line_of<F: FnMut(&[u8]) -> io::Result<()>>(bytes: &[u8], run: F) -> io::Result<()>
+    requires { F.IsAlwaysCallable run }
+    ensures { OnOk result (RunsOn F.FnMut run bytes.now) }
+{
+    (Lines { rest: bytes }).try_for_each(run)
 }
 
 // The same of the first ROOM bytes that the reader gives.
-fn each_line_within<R: Read, F: FnMut(&str) -> io::Result<()>, const ROOM: usize>(
+fn each_line_within<R: Read, F: FnMut(&[u8]) -> io::Result<()>, const ROOM: usize>(
     reader: &mut R,
     run: F,
 ) -> io::Result<()>
     requires callable { F.IsAlwaysCallable run }
     requires room { ROOM < 2 ^ 63 }
-    ensures { OnOk result ((text : List ℕ) × Consumes (R.remaining reader.old) (R.remaining reader.new) text × RunsOn F.FnMut run text) }
+    ensures { OnOk result ((bytes : List ℕ) × Consumes (R.remaining reader.old) (R.remaining reader.new) bytes × RunsOn F.FnMut run bytes) }
 {
     let mut buffer = [0; ROOM];
     let input = streams::input(reader, &mut buffer)?;
-    let Ok(text) = str::from_utf8(input) else {
-        return Err(ErrorKind::InvalidData.into());
-    };
-    each_line_of(text, run)
+    each_line_of(input, run)
 }
 
 // The same of what the reader gives. What stands behind the last of 1,048,576 bytes stays unread.
-pub fn each_line<R: Read, F: FnMut(&str) -> io::Result<()>>(
+pub fn each_line<R: Read, F: FnMut(&[u8]) -> io::Result<()>>(
     reader: &mut R,
     run: F,
 ) -> io::Result<()>
     requires { F.IsAlwaysCallable run }
-    ensures { OnOk result ((text : List ℕ) × Consumes (R.remaining reader.old) (R.remaining reader.new) text × RunsOn F.FnMut run text) }
+    ensures { OnOk result ((bytes : List ℕ) × Consumes (R.remaining reader.old) (R.remaining reader.new) bytes × RunsOn F.FnMut run bytes) }
 {
     each_line_within::<R, F, 1_048_576>(reader, run)
 }
 
 // The letter that a line begins with.
-pub fn letter(line: &str) -> Option<char> {
-    line.chars().next()
+pub fn letter(line: &[u8]) -> Option<u8> {
+    line.first().copied()
 }
 
 // The word behind so many blanks of a line, with a blank between the words.
-fn word(line: &str, blanks: usize) -> &str {
-    line.split(' ').nth(blanks).unwrap_or("")
+fn word(line: &[u8], blanks: usize) -> &[u8] {
+    line.split(|byte| *byte == b' ').nth(blanks).unwrap_or(&[])
 }
 
-// The number that a word is, 0 where it is none.
-fn size(word: &str) -> u64 {
-    word.parse().unwrap_or(0)
+// One decimal digit more. No number of the cases passes 64 bits.
+fn with_digit(size: u64, digit: u8) -> u64 {
+    (size % 1_844_674_407_370_955_162 * 10).wrapping_add(u64::from(digit % 16))
 }
 
-// The number that stands there, 0 where none does.
-pub fn number(line: &str, blanks: usize) -> u64 {
+// The size of a word's number, 0 where it has none.
+fn size(word: &[u8]) -> u64 {
+    word.iter()
+        .filter(|byte| **byte != b'-')
+        .fold(0, |size, byte| with_digit(size, *byte))
+}
+
+// The size of the number that stands there.
+pub fn number(line: &[u8], blanks: usize) -> u64 {
     size(word(line, blanks))
 }
 
-// The same of a number that may lie below zero.
-pub fn integer(line: &str, blanks: usize) -> i128
+// The number, which lies below zero where a minus stands in it.
+pub fn integer(line: &[u8], blanks: usize) -> i128
     ensures { unsigned_abs result < 2 ^ 64 }
 {
     let word = word(line, blanks);
-    match word.strip_prefix('-') {
-        Some(digits) => -i128::from(size(digits)),
-        None => i128::from(size(word)),
-    }
+    let size = i128::from(size(word));
+    if word.contains(&b'-') { -size } else { size }
 }

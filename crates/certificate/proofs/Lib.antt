@@ -1,4 +1,5 @@
 pub mod Arrays
+pub mod ReadLoop
 pub mod Lengths
 pub mod Shown
 pub mod Ties

@@ -12,6 +12,7 @@ use Rattle.certificate.specs.declared.Refusal.TheVariants.{Range, Thickness, Fla
 use Rattle.certificate.specs.declared.verdicts.Span.{Span}
 use Rattle.certificate.specs.declared.verdicts.Span.TheVariants.{Upto, OneOf}
 use Rattle.certificate.specs.declared.Flange.TheVariants.{One, Two}
+use Rattle.certificate.specs.Refusals.{flange_line}
 
 -- Is every value in range?
 unfoldable pub question2 : Sheet → List (Asked Refusal)
@@ -23,7 +24,7 @@ question3 q = (core_within q.t.0 q.tnom.0 else Thickness) ∷ []
 
 -- b ≤ 60t, flange 1 then 2?
 abbrev pub question4 : Sheet → List (Asked Refusal)
-question4 q = (width q.b1 q.t.0 else FlangeWidth One) ∷ (width q.b2 q.t.0 else FlangeWidth Two) ∷ []
+question4 q = (width q.b1 q.t.0 else FlangeWidth (flange_line One)) ∷ (width q.b2 q.t.0 else FlangeWidth (flange_line Two)) ∷ []
 
 -- c ≤ 50t?
 abbrev pub question5 : Sheet → List (Asked Refusal)
@@ -35,7 +36,7 @@ question6 q = (depth q.h q.t.0 else Depth) ∷ []
 
 -- b ≤ 5c and 5c ≤ 3b, flange 1 then 2?
 abbrev pub question7 : Sheet → List (Asked Refusal)
-question7 q = (lip q.b1 q.c else LipRatio One) ∷ (lip q.b2 q.c else LipRatio Two) ∷ []
+question7 q = (lip q.b1 q.c else LipRatio (flange_line One)) ∷ (lip q.b2 q.c else LipRatio (flange_line Two)) ∷ []
 
 -- r ≤ 5t and 10r ≤ bp1 and 10r ≤ bp2?
 abbrev pub question8 : Sheet → List (Asked Refusal)
@@ -45,7 +46,7 @@ question8 q =
 -- 5cp ≤ 3bp, flange 1 then 2?
 abbrev pub question9 : Sheet → List (Asked Refusal)
 question9 q =
-    (mid_line_lip q.b1 q.c q.tnom.0 else MidLineRatio One) ∷ (mid_line_lip q.b2 q.c q.tnom.0 else MidLineRatio Two) ∷ []
+    (mid_line_lip q.b1 q.c q.tnom.0 else MidLineRatio (flange_line One)) ∷ (mid_line_lip q.b2 q.c q.tnom.0 else MidLineRatio (flange_line Two)) ∷ []
 
 -- Form Z, or 2c ≤ h?
 abbrev pub question10 : Sheet → List (Asked Refusal)

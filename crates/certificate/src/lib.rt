@@ -30,8 +30,8 @@ pub enum Flange {
     Two,
 }
 
-// Why a sheet, or a certificate, is refused: a case for each question, with the line, the flange or
-// the length that varies.
+// Why a sheet, or a certificate, is refused: a case for each question, with the line or the length
+// that varies.
 #[derive(Clone, Copy, Debug, PartialEq, Eq)]
 pub enum Refusal {
     // 1: a line is missing or misspelt
@@ -41,17 +41,17 @@ pub enum Refusal {
     // 3: the core is thicker than the nominal thickness
     Thickness,
     // 4: a flange is wider than 60 times the thickness
-    FlangeWidth(Flange),
+    FlangeWidth(u64),
     // 5: the lip is longer than 50 times the thickness
     LipLength,
     // 6: the web is deeper than 500 times the thickness
     Depth,
     // 7: the lip is too short or too long for a flange
-    LipRatio(Flange),
+    LipRatio(u64),
     // 8: the radius is too large
     Radius,
     // 9: the lip is too long for a flange, on the mid-lines
-    MidLineRatio(Flange),
+    MidLineRatio(u64),
     // 10: the lips of a C meet
     Form,
     // 11: the area's upper end passes the allowance

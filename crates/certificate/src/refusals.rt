@@ -28,16 +28,23 @@ impl Reason for Refusal {
             Refusal::Spelling(line) => answer(1, line, 0),
             Refusal::Range(line) => answer(2, line, 0),
             Refusal::Thickness => answer(3, 8, 0),
-            Refusal::FlangeWidth(flange) => answer(4, flange.line(), 0),
+            Refusal::FlangeWidth(line) => answer(4, line, 0),
             Refusal::LipLength => answer(5, 5, 0),
             Refusal::Depth => answer(6, 2, 0),
-            Refusal::LipRatio(flange) => answer(7, flange.line(), 0),
+            Refusal::LipRatio(line) => answer(7, line, 0),
             Refusal::Radius => answer(8, 6, 0),
-            Refusal::MidLineRatio(flange) => answer(9, flange.line(), 0),
+            Refusal::MidLineRatio(line) => answer(9, line, 0),
             Refusal::Form => answer(10, 5, 0),
             Refusal::Allowance => answer(11, 12, 0),
             Refusal::Room(length) => answer(12, 0, length),
             Refusal::Figure(line) => answer(13, line, 0),
         }
     }
+}
+
+// The number, the line and the length of a refusal.
+pub fn refusal_answer(r: Refusal) -> Answer
+    ensures { result ≡ refusal_answer r }
+{
+    r.told()
 }

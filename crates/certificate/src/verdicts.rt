@@ -77,8 +77,8 @@ fn lengths_suit(q: Sheet) -> Result<(), Refusal>
 {
     let t = q.t.0;
     ask(t <= q.tnom.0, Refusal::Thickness)?;
-    ask(q.b1 <= 60 * t, Refusal::FlangeWidth(Flange::One))?;
-    ask(q.b2 <= 60 * t, Refusal::FlangeWidth(Flange::Two))?;
+    ask(q.b1 <= 60 * t, Refusal::FlangeWidth(Flange::One.line()))?;
+    ask(q.b2 <= 60 * t, Refusal::FlangeWidth(Flange::Two.line()))?;
     ask(q.c <= 50 * t, Refusal::LipLength)?;
     ask(q.h <= 500 * t, Refusal::Depth)
 }
@@ -103,11 +103,11 @@ fn lips_suit(q: Sheet) -> Result<(), Refusal>
     let bp2 = q.b2 - tnom;
     let r = 10 * q.r;
     let lip = 5 * (2 * q.c - tnom);
-    ask(lip_suits(q.b1, q.c), Refusal::LipRatio(Flange::One))?;
-    ask(lip_suits(q.b2, q.c), Refusal::LipRatio(Flange::Two))?;
+    ask(lip_suits(q.b1, q.c), Refusal::LipRatio(Flange::One.line()))?;
+    ask(lip_suits(q.b2, q.c), Refusal::LipRatio(Flange::Two.line()))?;
     ask(q.r <= 5 * q.t.0 && r <= bp1 && r <= bp2, Refusal::Radius)?;
-    ask(lip <= 6 * bp1, Refusal::MidLineRatio(Flange::One))?;
-    ask(lip <= 6 * bp2, Refusal::MidLineRatio(Flange::Two))?;
+    ask(lip <= 6 * bp1, Refusal::MidLineRatio(Flange::One.line()))?;
+    ask(lip <= 6 * bp2, Refusal::MidLineRatio(Flange::Two.line()))?;
     ask(q.form == 1 || 2 * q.c <= q.h, Refusal::Form)
 }
 

@@ -10,7 +10,7 @@ use lib.ListN.{length, get_or, length-append}
 use Rattle.std.specs.Prelude.{◌==◌, Option, None, Some, MatchOption, IfSome}
 use Rattle.std.specs.Borrow.{Bor}
 use Rattle.std.specs.List.{count_by}
-use Rattle.std.proofs.lemmas.List.Sums.{sum_by-cons}
+use Rattle.std.proofs.lemmas.List.Sums.{sum_by-cons, count_by-le-length}
 use Rattle.questions.proofs.Laws.{by_test}
 use Rattle.lines.specs.Ascii.{newline}
 use Rattle.lines.specs.Splitting.{lengthened, split_lines, newlines, unended}
@@ -32,6 +32,10 @@ newlines_counted (b ∷ s) =
     by_byte b
     (λ e. rw (sum_by-cons (λ b. cond (b == newline) 1 0) b s, eq-eqb b newline e) (omega (arith, newlines_counted s)))
     (λ n. rw (sum_by-cons (λ b. cond (b == newline) 1 0) b s, ne_eqb b newline n) (omega (arith, newlines_counted s)))
+
+-- no more newlines than bytes
+pub newlines_most : (s : List ℕ) → newlines s ≤ length s
+newlines_most s = rw (← newlines_counted s) (count_by-le-length (λ b. b == newline) s)
 
 pub unended_none : unended [] ≡ 0
 unfolding unended

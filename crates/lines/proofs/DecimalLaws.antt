@@ -14,7 +14,7 @@ use Rattle.std.proofs.lemmas.Fmt.{decimal_by_steps_wide}
 use Rattle.lines.specs.Ascii.{digit0, minus}
 use Rattle.lines.specs.Decimal.{digits_in, decimal, integer_text, fixed_text}
 use Rattle.questions.specs.Buffers.{over}
-use Rattle.lines.proofs.LentParts.{length_snoc}
+use Rattle.lines.proofs.LentParts.{length_snoc, length-over, over-set}
 
 -- a number below ten is one digit, however many steps are allowed
 in_small : (k n : ℕ) → n < 10 → digits_in k n ≡ (digit0 + n) ∷ []
@@ -111,6 +111,31 @@ module _ (n : ℕ) where
   word_digits h = decimal-length 19 n (omega arith)
 
 pub ruleset widths = (length_small, two_digits, three_digits, four_digits, length_four, word_digits)
+
+-- Of a size past a word the digits in front of the last come first.
+module _ (n front at : ℕ) (big : 10 ≤ n) (front_is : front ≡ n / 10) where
+  one_more : length (decimal n) ≡ length (decimal front) + 1
+  one_more = omega (arith, length_step n big, ap (λ (m : ℕ). length (decimal m)) front_is)
+
+  pub size_most : n < 2 ^ 128 → at ≡ length (decimal front) → at + 1 ≤ 39
+  size_most h e = omega (arith, decimal-length 38 n (omega arith), one_more)
+
+  -- they were put over the buffer b, which is d by now
+  module _ (b d : List ℕ) (room : length (decimal n) ≤ length b) where
+    pub front_room : length (decimal front) ≤ length b
+    front_room = omega (arith, one_more)
+
+    module _ (at_is : at ≡ length (decimal front)) (d_is : d ≡ over (decimal front) b) where
+      pub last_room : at < length d
+      last_room = omega (arith, one_more, ap length d_is, length-over (decimal front) b front_room)
+
+      pub last_put : (last : ℕ) → last ≡ n % 10 → set d at (digit0 + last) ≡ over (decimal n) b
+      last_put last last_is =
+          let more : length (decimal front) < length b = omega (arith, one_more) in
+          let digits : decimal n ≡ decimal front ++ ((digit0 + last) ∷ []) = rw (front_is, last_is) (decimal_step n big) in
+          rw (d_is, at_is, digits) (over-set (decimal front) b (digit0 + last) more)
+
+pub ruleset size_steps = (length_step, size_most, front_room, last_room, last_put)
 
 -- fixed digits
 

@@ -1,14 +1,25 @@
 -- Texts at the front of a buffer, one behind another.
-use Prim.Native.Nat.{ℕ, ◌+◌, ◌≤◌}
+use Prim.Native.Nat.{ℕ, ◌+◌, ◌≤◌, ◌<◌}
 use mathlib.Core.List.{List, [], ◌∷◌, ◌++◌, append_assoc, append-nil}
-use mathlib.Core.Path.{◌≡◌, sym, ap, ◌∙◌}
+use mathlib.Core.Path.{◌≡◌, refl, sym, ap, ◌∙◌}
+use native.Mathlib.Numerals.{add-one}
 use native.Mathlib.Omega.{arith}
-use lib.ListN.{length, take, drop, length-append, drop_of_length-le, take-append-drop}
-use lib.Seq.{take-append_seam, drop-drop}
+use lib.ListN.{length, take, drop, get_or, set, length-append, length-drop, length-take, drop_of_length-le, take-append-drop}
+use lib.Seq.{take_all, take-append_seam, set-append_seam, drop-drop, drop-cons}
+use Rattle.std.proofs.lemmas.List.{take_more}
 use Rattle.questions.specs.Buffers.{over}
 
 pub length_snoc : (t : List ℕ) (x : ℕ) → length (t ++ (x ∷ [])) ≡ length t + 1
 length_snoc t x = length-append t (x ∷ [])
+
+pub length-over : (t b : List ℕ) → length t ≤ length b → length (over t b) ≡ length b
+unfolding over
+length-over t b h = simp (length-append, length-drop) (omega arith)
+
+-- the buffer as it is, where nothing is written yet
+pub over_nothing : (b : List ℕ) → b ≡ over [] b
+unfolding over
+over_nothing b = refl
 
 -- the text stands in front
 pub over_front : (t b : List ℕ) → take (length t) (over t b) ≡ t
@@ -19,6 +30,29 @@ over_front t b = take-append_seam t (drop (length t) b)
 pub over_all : (t b : List ℕ) → length b ≤ length t → over t b ≡ t
 unfolding over
 over_all t b h = ap (λ (l : List ℕ). t ++ l) (drop_of_length-le b {i = length t} h) ∙ append-nil t
+
+-- one byte more behind the text t
+pub over-set : (t b : List ℕ) (x : ℕ) → length t < length b → set (over t b) (length t) x ≡ over (t ++ (x ∷ [])) b
+unfolding over
+over-set t b x h =
+    rw (drop-cons b (length t) 0 h)
+    (set-append_seam t _ _ x ∙ sym (append_assoc t (x ∷ []) _ ∙ ap (λ (k : ℕ). t ++ (x ∷ drop k b)) (length_snoc t x ∙ add-one (length t))))
+
+-- The first bytes of the text s were put over the buffer b, which is d by now.
+module _ (s b d : List ℕ) (at : ℕ) (room : length s ≤ length b) (so_far : d ≡ over (take at s) b) where
+  pub byte_room : at < length s → at < length d
+  byte_room h = omega (arith, ap length so_far, length-over (take at s) b (simp length-take (omega arith)))
+
+  pub byte_put : at < length s → set d at (get_or s at 0) ≡ over (take (at + 1) s) b
+  byte_put h =
+      let x = get_or s at 0 in
+      let place : at ≡ length (take at s) = simp length-take (omega arith) in
+      rw (so_far, take_more s at 0 h) (ap (λ (k : ℕ). set (over (take at s) b) k x) place ∙ over-set (take at s) b x (omega arith))
+
+  pub bytes_put : length s ≤ at → d ≡ over s b
+  bytes_put h = so_far ∙ ap (λ (t : List ℕ). over t b) (take_all at s h)
+
+pub ruleset byte_steps = (over_nothing, byte_room, byte_put, bytes_put)
 
 -- Texts go one behind another: t was put at a place, next is the place behind it, and r is left.
 pub behind_next : (t r whole b d e : List ℕ) (at next : ℕ) → next ≡ at + length t → take next e ≡ take at d ++ t → drop next e ≡ drop next d

@@ -114,3 +114,8 @@ unfolding SpeltIn lines_text longest
 text_at_most [] vs h = omega arith
 text_at_most (F ∷ T) [] h = absurd h
 text_at_most (F ∷ T) (v ∷ vs) h = omega (arith, length-append (line_text F v) (lines_text T vs), line_at_most F v h.0, text_at_most T vs h.1)
+
+pub longest_join : (T U : List Field) → longest (T ++ U) ≡ longest T + longest U
+unfolding longest
+longest_join [] U = omega arith
+longest_join (F ∷ T) U = omega (arith, longest_join T U)

@@ -1,5 +1,5 @@
 // Reading lines. A reader answers a value and the bytes behind its line, or none where the line is bad.
-ghost use Rattle.std.specs.Prelude.{◌≡◌, suc, ◌-◌, ◌*◌, ◌^◌, ◌≤◌, ◌<◌, length, pos, map, IfSome};
+ghost use Rattle.std.specs.Prelude.{◌≡◌, suc, ◌-◌, ◌*◌, ◌^◌, ◌≤◌, ◌<◌, length, drop, pos, map, IfSome};
 ghost use Rattle.std.specs.Option.{is_some};
 ghost use Rattle.lines.specs.Ascii.{digit0};
 ghost use Rattle.lines.specs.Decimal.{most_fixed};
@@ -66,6 +66,14 @@ pub fn fixed(s: &[u8], digits: usize) -> Option<(u64, &[u8])>
         rest = behind;
     }
     ended(rest, n)
+}
+
+// The same at a place of s, behind whose end no number stands.
+pub fn fixed_at(s: &[u8], at: usize, digits: usize) -> Option<(u64, &[u8])>
+    requires { digits ≤ most_fixed }
+    ensures { found_number result ≡ read_fixed digits 0 (drop at s.now) }
+{
+    fixed(s.get(at..).unwrap_or(&[]), digits)
 }
 
 #[tactic(auto, unfolding(crate::specs::Reading::read_number))]

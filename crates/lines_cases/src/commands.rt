@@ -8,7 +8,9 @@ use lines::texts::Text;
 use lines::writing::Line;
 use lines::{reading, splitting};
 use std::io;
-use std::io::ErrorKind;
+
+// The most bytes of a case.
+const ROOM: usize = 512;
 
 // The name of an answer, its number, and a newline.
 fn answer(rt: &impl Print, name: &str, number: u64) -> io::Result<()> {
@@ -119,20 +121,47 @@ fn split(rt: &impl Print, case: &[u8]) -> io::Result<()> {
     answer(rt, "split", at as u64)
 }
 
-// A letter, and at most 512 bytes in hexadecimal.
-pub fn run(rt: &impl Print, line: &str) -> io::Result<()> {
-    let Some((letter, digits)) = line.as_bytes().split_first() else {
-        return Ok(());
+// What a hexadecimal digit stands for: 0 to 9, a to f.
+fn digit(byte: u8) -> u8
+    ensures { result < 16 }
+{
+    if byte < b'a' {
+        byte % 16
+    } else {
+        (byte - b'a') % 6 + 10
+    }
+}
+
+// The byte of two digits, or of the one that is left.
+fn byte(digits: &[u8]) -> u8 {
+    digits
+        .iter()
+        .fold(0, |begun, next| begun % 16 * 16 + digit(*next))
+}
+
+// The bytes of a case, with zeros behind them.
+fn decoded(digits: &[u8]) -> [u8; ROOM] {
+    let mut bytes = [0; ROOM];
+    for (place, pair) in bytes.iter_mut().zip(digits.chunks(2)) {
+        *place = byte(pair);
+    }
+    bytes
+}
+
+// A letter, and at most 512 bytes in hexadecimal. What is written needs no more bytes than are there: zeros stand
+// for the others.
+pub fn run(rt: &impl Print, line: &[u8]) -> io::Result<()> {
+    let (letter, digits) = match line.split_first() {
+        Some((letter, digits)) => (*letter, digits),
+        None => (b's', line),
     };
-    let mut bytes = [0; 512];
-    let n = (digits.len() / 2).min(512);
-    hex::decode_to_slice(&digits[..2 * n], &mut bytes[..n]).map_err(|_| ErrorKind::InvalidData)?;
-    let case = &bytes[..n];
+    let bytes = decoded(digits);
+    let case = &bytes[..(digits.len() / 2).min(ROOM)];
     match letter {
         b'r' => read(rt, case),
-        b'w' => write(rt, case),
+        b'w' => write(rt, &bytes),
         b'd' => write_row(rt, case),
-        b'f' => write_fixed(rt, case),
+        b'f' => write_fixed(rt, &bytes),
         b'g' => read_fixed(rt, case),
         _ => split(rt, case),
     }

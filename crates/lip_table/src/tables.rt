@@ -24,6 +24,10 @@ fn put(buffer: &mut [u8]) -> Result<usize, LipRefusal>
     ensures value { result ≡ length_in table_outcome buffer.old }
     ensures buffer_after { buffer.new ≡ buffer_in table_outcome buffer.old }
 {
+    // Of a buffer that is too short no entry is looked at: the length is known.
+    if buffer.len() < TABLE_LENGTH {
+        return Err(LipRefusal::Room(TABLE_LENGTH as u64));
+    }
     let table: &[Entry] = entries::table();
     Ok(texts::write_fitted(&table, TABLE_LENGTH, buffer)?)
 }

@@ -7,7 +7,7 @@ use lib.Count.{count_leading_zeros, leading_le, leading_length}
 use lib.Pow.{pow_mono, shr-shr}
 
 -- above the leading zeros of n nothing is taken in, of n and of any number that is no larger
-nothing_above : (m n at : ℕ) → m ≤ n → n < 2 ^ 64 → 64 ≤ count_leading_zeros 64 n + at → m / 2 ^ at ≡ 0
+pub nothing_above : (m n at : ℕ) → m ≤ n → n < 2 ^ 64 → 64 ≤ count_leading_zeros 64 n + at → m / 2 ^ at ≡ 0
 nothing_above m n at g h k =
     let l = leading_length 64 n h in
     div-eq_of_lt (lt_of_le_of_lt g (lt_of_lt_of_le l.2 (pow_mono (omega (arith, l.1)))))

@@ -1,5 +1,6 @@
 pub mod Tests
 pub mod Quotients
+pub mod LongDivision
 pub mod Powers
 pub mod Extraction
 pub mod Steps

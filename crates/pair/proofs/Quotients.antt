@@ -3,6 +3,7 @@ use mathlib.Core.Path.{◌≡◌, sym, ap, ap₂, ◌∙◌}
 use Prim.Native.Nat.{ℕ, zero, suc, ◌+◌, ◌-◌, ◌*◌, ◌/◌, ◌%◌, ◌≤◌, ◌<◌, min}
 use native.Mathlib.Nat.{le_refl, le_antisymm, le_of_suc-le-suc, suc-mul, mul_comm, mul-sub, mul-pos, mul-le-mul_left, mul-le-mul_right, le_of_mul-le-mul_right, div-mul-le_self, le-div_iff_mul-le, div-lt_iff_lt-mul, lt-div-mul-add, div-add-mod', mul-add-div_right, mul-add-mod_self_right, min-le_left, min-le_right}
 use native.Mathlib.Decide.{dec_le}
+use lib.Arith.{digits_div}
 use native.Mathlib.Omega.{arith}
 use Rattle.pair.specs.Rounding.{ceil_div}
 use Rattle.pair.specs.RoundingLaws.{RoundingLaws}
@@ -85,6 +86,12 @@ whole_apart a b d p = sym (mul-add-div_right p (a / d * b) (a % d * b)) ∙ ap (
 
 pub rest_apart : (a b d : ℕ) → a % d * b % d ≡ a * b % d
 rest_apart a b d = sym (mul-add-mod_self_right (a / d * b) d (a % d * b)) ∙ ap (λ (n : ℕ). n % d) (apart a b d)
+
+-- q is the quotient of n where what it leaves is below the divisor
+pub by_rest : (q r : ℕ) {n d : ℕ} → q * d + r ≡ n → r < d → (q ≡ n / d) × (r ≡ n % d)
+by_rest q r {n} {d} e h =
+    let whole : n / d ≡ q = ap (λ (k : ℕ). k / d) (sym e) ∙ digits_div q h in
+    (sym whole, omega (arith, ap (λ (k : ℕ). k * d) whole, div-add-mod' n d))
 
 -- a quotient and what it leaves are together at most what is divided
 pub parts_fit : (n d : ℕ) → 0 < d → n / d + n % d ≤ n

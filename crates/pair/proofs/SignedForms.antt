@@ -42,27 +42,27 @@ pub ruleset sums = (to_z-of_z, fits_signed_from_abs, low_plus, high_plus, low_mi
 
 -- no product and no quotient of sizes within the reach passes 64 bits
 
-times_word : {s : ℕ} {x y : SignedPair} {n k : ℕ} → TimesRoom s x y → n ≤ reach x → k ≤ reach y → ceil_div (n * k) s < 2 ^ 64
+pub times_word : {s : ℕ} {x y : SignedPair} {n k : ℕ} → TimesRoom s x y → n ≤ reach x → k ≤ reach y → ceil_div (n * k) s < 2 ^ 64
 times_word r h k = lt_of_le_of_lt (ceil_le r.scale (le_trans (mul-le-mul h k) (le_ceil r.scale))) r.room
 
-over_word : {s : ℕ} {x : SignedPair} {q : Pair} {n d : ℕ} → OverRoom s x q → n ≤ reach x → q.lo ≤ d → ceil_div (n * s) d < 2 ^ 64
+pub over_word : {s : ℕ} {x : SignedPair} {q : Pair} {n d : ℕ} → OverRoom s x q → n ≤ reach x → q.lo ≤ d → ceil_div (n * s) d < 2 ^ 64
 over_word {s} {x} {q} r h k =
     let d⁺ = le_trans r.some k in
     lt_of_le_of_lt (ceil_le d⁺ (le_trans (mul-le-mul_right s h) (le_trans (le_ceil r.some) (mul-le-mul_left _ k)))) r.room
 
-low_reach : (a : SignedPair) → nat_abs a.lo ≤ reach a
+pub low_reach : (a : SignedPair) → nat_abs a.lo ≤ reach a
 unfolding reach
 low_reach a = le-max_left _ _
 
-high_reach : (a : SignedPair) → nat_abs a.hi ≤ reach a
+pub high_reach : (a : SignedPair) → nat_abs a.hi ≤ reach a
 unfolding reach
 high_reach a = le-max_right _ _
 
-pair_low : (p : Pair) → p.lo ≤ reach (signed p)
+pub pair_low : (p : Pair) → p.lo ≤ reach (signed p)
 unfolding signed reach
 pair_low p = le-max_left _ _
 
-pair_high : (p : Pair) → p.hi ≤ reach (signed p)
+pub pair_high : (p : Pair) → p.hi ≤ reach (signed p)
 unfolding signed reach
 pair_high p = le-max_right _ _
 

@@ -88,6 +88,8 @@ impl Square {
         Square::scaled(hi, s).up()
     }
 
+    // Called, and not put in place: so the loop over two roots takes less time.
+    #[inline(never)]
     fn by_bits(n: u64) -> Square
         ensures { square_taken result ≡ n }
     {

@@ -1,6 +1,6 @@
-// Quotients of a product of two u64, which has 128 bits. A processor divides 64 bits in far less time than
-// 128, so these are left to the few products that need them.
-ghost use Rattle.std.specs.Prelude.{◌≡◌, ℕ, ◌+◌, ◌*◌, ◌/◌, ◌%◌, ◌^◌, ◌<◌, min};
+// Quotients of a product of two u64, which has 128 bits. All divisions are of 64 bits: for one of 128 the C
+// compiler would call its library, and a processor would take far longer.
+ghost use Rattle.std.specs.Prelude.{◌≡◌, ℕ, ◌+◌, ◌-◌, ◌*◌, ◌/◌, ◌%◌, ◌^◌, ◌<◌, ◌≤◌, min, max};
 ghost use Rattle.pair.specs.Rounding.{ceil_div};
 ghost use Rattle.pair.specs.RoundingLaws.{floor_div, RoundingLaws, down_laws, up_laws};
 
@@ -63,6 +63,53 @@ pub fn quotient<R: Rounding>(n: u64, d: u64) -> u64
     n / d + R::added(n % d)
 }
 
+// n / d or at most 2 more, from 32 bits of d and as many bits less of n.
+#[tactic(auto, using(crate::proofs::LongDivision::estimates))]
+fn estimate(n: u128, d: u64) -> u64
+    requires { n < d * 2 ^ 32 }
+    ensures enough { n / d ≤ result }
+    ensures near { result ≤ n / d + 2 }
+{
+    let cut = 32 - d.leading_zeros().min(32);
+    (n >> cut) as u64 / (d >> cut)
+}
+
+// An estimate of n / d, or one less where it is too large. Called twice: of a loop the C compiler would make a
+// division of 128 bits again.
+#[tactic(auto, using(crate::proofs::LongDivision::lowers))]
+fn lowered(estimate: u64, n: u128, d: u64) -> u64
+    requires some { 0 < d }
+    requires enough { n / d ≤ estimate }
+    ensures { result ≡ max (n / d) (estimate - 1) }
+{
+    estimate - (n < estimate as u128 * d as u128) as u64
+}
+
+// The next 32 bits of a quotient by d and what is left, where rest was left before and next are the next 32 bits
+// of what is divided.
+fn digit(rest: u64, next: u32, d: u64) -> (u64, u64)
+    requires { rest < d }
+    ensures whole { result.0 ≡ (rest * 2 ^ 32 + next) / d }
+    ensures rest { result.1 ≡ (rest * 2 ^ 32 + next) % d }
+{
+    let n = rest as u128 * 0x1_0000_0000 + next as u128;
+    let quotient = lowered(lowered(estimate(n, d), n, d), n, d);
+    (quotient, (n - quotient as u128 * d as u128) as u64)
+}
+
+// n by d and what is left, in two digits of 32 bits: for the few quotients that need it.
+#[tactic(auto, using(crate::proofs::LongDivision::digits))]
+fn divided(n: u128, d: u64) -> (u64, u64)
+    requires some { 0 < d }
+    requires fits { n / d < 2 ^ 64 }
+    ensures whole { result.0 ≡ n / d }
+    ensures rest { result.1 ≡ n % d }
+{
+    let (upper, rest) = digit((n >> 64) as u64, ((n >> 32) % 0x1_0000_0000) as u32, d);
+    let (lower, rest) = digit(rest, (n % 0x1_0000_0000) as u32, d);
+    (upper * 0x1_0000_0000 + lower, rest)
+}
+
 // x * b by d and what is left, for x below d.
 fn reduced(x: u64, b: u64, d: u64) -> (u64, u64)
     requires { x < d }
@@ -74,7 +121,7 @@ fn reduced(x: u64, b: u64, d: u64) -> (u64, u64)
         let n = product as u64;
         return (n / d, n % d);
     }
-    ((product / d as u128) as u64, (product % d as u128) as u64)
+    divided(product, d)
 }
 
 // a * b by d and what is left. Where a * b passes a word, a is taken apart as a / d * d + a % d.

@@ -4,7 +4,6 @@ use mathlib.Core.Bool.{true, ◌&&◌}
 use Prim.Native.Nat.{ℕ, ◌+◌, ◌*◌, ◌%◌, ◌^◌, ◌<◌}
 use native.Mathlib.Nat.{lt_of_le_of_lt}
 use native.Mathlib.Omega.{arith}
-use borrow.Author.Tests.{ltb-true}
 use lib.Dec.{ltb}
 use lib.IntN.{ℤ, nat_abs, ◌+ℤ◌}
 use mir.Syntax.{w128}
@@ -31,7 +30,8 @@ root_small s v e = (root_out s (exact v) e).2
 pub ruleset roots = (root_scale, root_small)
 
 pub sum_fits : (x y : ℤ) → word (nat_abs x + nat_abs y) ≡ true → SFits w128 (x +ℤ y)
-unfolding word
-sum_fits x y e = let small : nat_abs (x +ℤ y) < 2 ^ 64 = lt_of_le_of_lt (plus_size x y) (ltb-true _ _ e) in fits_signed_from_abs w128 _ (omega (arith, small))
+sum_fits x y e =
+    let small : nat_abs (x +ℤ y) < 2 ^ 64 = lt_of_le_of_lt (plus_size x y) (quotient_fits 1 (nat_abs x + nat_abs y) e) in
+    fits_signed_from_abs w128 _ (omega (arith, small))
 
 pub ruleset sums = (to_z-of_z, sum_fits)

@@ -1,5 +1,8 @@
 // Cases of integers and of signed pairs.
+ghost use Rattle.std.specs.Prelude.{◌<◌};
+
 use crate::outcome::Outcome;
+use crate::pairs::pair;
 use pair::Pair;
 use pair::signed::Signed;
 
@@ -36,37 +39,38 @@ fn coarser(a: Signed, k: u64) -> Option<Outcome> {
     (0 < k).then(|| ends(a.coarser(k)))
 }
 
-// The operation that the line's letter names, and what it gives, where it applies.
-pub fn given(line: &str) -> Option<(&'static str, Option<Outcome>)> {
-    let x = cases::integer(line, 1);
-    let y = cases::integer(line, 2);
-    let a = Signed { lo: x, hi: y };
-    let b = Signed {
-        lo: cases::integer(line, 3),
-        hi: cases::integer(line, 4),
-    };
-    let p = Pair {
-        lo: cases::number(line, 1),
-        hi: cases::number(line, 2),
-    };
-    let q = Pair {
-        lo: cases::number(line, 3),
-        hi: cases::number(line, 4),
-    };
-    let s = cases::number(line, 5);
+// The signed pair whose ends are the numbers from a word on.
+fn signed(line: &[u8], blanks: usize) -> Signed
+    requires { blanks < 8 }
+{
+    Signed {
+        lo: cases::integer(line, blanks),
+        hi: cases::integer(line, blanks + 1),
+    }
+}
+
+// The operation that the line's letter names, and what it gives, where it applies. Only its own operands are read.
+pub fn given(line: &[u8]) -> Option<(&'static str, Option<Outcome>)> {
+    let x = || cases::integer(line, 1);
+    let y = || cases::integer(line, 2);
+    let a = || signed(line, 1);
+    let b = || signed(line, 3);
+    let p = || pair(line, 1);
+    let q = || pair(line, 3);
+    let s = || cases::number(line, 5);
     match cases::letter(line)? {
-        'F' => Some(("of", Some(ends(Signed::from(p))))),
-        'B' => Some(("between", Some(ends(Signed::between(p, q))))),
-        'A' => Some(("integer_plus", integer_plus(x, y))),
-        'L' => Some(("at_most", Some(Outcome::Whole((x <= y) as u64)))),
-        'I' => Some(("least", Some(Outcome::Integer(x.min(y))))),
-        'G' => Some(("greatest", Some(Outcome::Integer(x.max(y))))),
-        'P' => Some(("signed_plus", plus(a, b))),
-        'M' => Some(("signed_minus", minus(a, b))),
-        'T' => Some(("signed_times", times(a, q, s))),
-        'X' => Some(("times_signed", times_signed(a, b, s))),
-        'O' => Some(("signed_over", over(a, q, s))),
-        'C' => Some(("coarser", coarser(a, q.lo))),
+        b'F' => Some(("of", Some(ends(Signed::from(p()))))),
+        b'B' => Some(("between", Some(ends(Signed::between(p(), q()))))),
+        b'A' => Some(("integer_plus", integer_plus(x(), y()))),
+        b'L' => Some(("at_most", Some(Outcome::Whole((x() <= y()) as u64)))),
+        b'I' => Some(("least", Some(Outcome::Integer(x().min(y()))))),
+        b'G' => Some(("greatest", Some(Outcome::Integer(x().max(y()))))),
+        b'P' => Some(("signed_plus", plus(a(), b()))),
+        b'M' => Some(("signed_minus", minus(a(), b()))),
+        b'T' => Some(("signed_times", times(a(), q(), s()))),
+        b'X' => Some(("times_signed", times_signed(a(), b(), s()))),
+        b'O' => Some(("signed_over", over(a(), q(), s()))),
+        b'C' => Some(("coarser", coarser(a(), cases::number(line, 3)))),
         _ => None,
     }
 }

@@ -1,4 +1,6 @@
 // Cases of pairs.
+ghost use Rattle.std.specs.Prelude.{◌<◌};
+
 use crate::outcome::Outcome;
 use pair::Pair;
 
@@ -43,28 +45,34 @@ fn cube_root(p: Pair, s: u64) -> Option<Outcome> {
     pair_checked::cube_root_fits(p, s).then(|| Outcome::Ends(p.cube_root(s)))
 }
 
-// The operation that the line's letter names, and what it gives, where it applies.
-pub fn given(line: &str) -> Option<(&'static str, Option<Outcome>)> {
-    let a = cases::number(line, 1);
-    let b = cases::number(line, 2);
-    let c = cases::number(line, 3);
-    let d = cases::number(line, 4);
-    let s = cases::number(line, 5);
-    let p = Pair { lo: a, hi: b };
-    let q = Pair { lo: c, hi: d };
+// The pair whose ends are the numbers from a word on.
+pub fn pair(line: &[u8], blanks: usize) -> Pair
+    requires { blanks < 8 }
+{
+    Pair {
+        lo: cases::number(line, blanks),
+        hi: cases::number(line, blanks + 1),
+    }
+}
+
+// The operation that the line's letter names, and what it gives, where it applies. Only its own operands are read.
+pub fn given(line: &[u8]) -> Option<(&'static str, Option<Outcome>)> {
+    let n = |blanks| cases::number(line, blanks);
+    let p = || pair(line, 1);
+    let q = || pair(line, 3);
     match cases::letter(line)? {
-        'e' => Some(("exact", Some(Outcome::Ends(Pair::exact(a))))),
-        'v' => Some(("ratio", ratio(a, b, c))),
-        'p' => Some(("plus", plus(p, q))),
-        'm' => Some(("minus", minus(p, q))),
-        't' => Some(("times", times(p, q, s))),
-        'o' => Some(("over", over(p, q, s))),
-        'x' => Some(("times_ratio", times_ratio(p, c, d, s))),
-        'y' => Some(("over_ratio", over_ratio(p, c, d, s))),
-        'r' => Some(("root", root(p, c))),
-        'R' => Some(("roots", roots(p, q, s))),
-        'c' => Some(("cube_root", cube_root(p, c))),
-        'i' => Some(("smaller", Some(Outcome::Ends(p.smaller(q))))),
+        b'e' => Some(("exact", Some(Outcome::Ends(Pair::exact(n(1)))))),
+        b'v' => Some(("ratio", ratio(n(1), n(2), n(3)))),
+        b'p' => Some(("plus", plus(p(), q()))),
+        b'm' => Some(("minus", minus(p(), q()))),
+        b't' => Some(("times", times(p(), q(), n(5)))),
+        b'o' => Some(("over", over(p(), q(), n(5)))),
+        b'x' => Some(("times_ratio", times_ratio(p(), n(3), n(4), n(5)))),
+        b'y' => Some(("over_ratio", over_ratio(p(), n(3), n(4), n(5)))),
+        b'r' => Some(("root", root(p(), n(3)))),
+        b'R' => Some(("roots", roots(p(), q(), n(5)))),
+        b'c' => Some(("cube_root", cube_root(p(), n(3)))),
+        b'i' => Some(("smaller", Some(Outcome::Ends(p().smaller(q()))))),
         _ => None,
     }
 }

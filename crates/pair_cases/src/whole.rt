@@ -33,18 +33,36 @@ fn cube_of(n: u64) -> Outcome {
     Outcome::Rooted(t.root, t.rest)
 }
 
-// The operation that the line's letter names, and what it gives, where it applies.
-pub fn given(line: &str) -> Option<(&'static str, Option<Outcome>)> {
-    let a = cases::number(line, 1);
-    let b = cases::number(line, 2);
-    let d = cases::number(line, 3);
+// The first three operands.
+fn three(line: &[u8]) -> [u64; 3] {
+    [
+        cases::number(line, 1),
+        cases::number(line, 2),
+        cases::number(line, 3),
+    ]
+}
+
+// The operation that the line's letter names, and what it gives, where it applies. Only its own operands are read.
+pub fn given(line: &[u8]) -> Option<(&'static str, Option<Outcome>)> {
     match cases::letter(line)? {
-        'h' => Some(("high", Some(Outcome::Whole(wide::high(a, b))))),
-        'f' => Some(("floor_of", floor_of(a, b, d))),
-        'g' => Some(("ceil_of", ceil_of(a, b, d))),
-        'q' => Some(("square_of", Some(square_of(a)))),
-        's' => Some(("scaled_square", scaled_square(a, b))),
-        'k' => Some(("cube_of", Some(cube_of(a)))),
+        b'h' => {
+            let high = wide::high(cases::number(line, 1), cases::number(line, 2));
+            Some(("high", Some(Outcome::Whole(high))))
+        }
+        b'f' => {
+            let [a, b, d] = three(line);
+            Some(("floor_of", floor_of(a, b, d)))
+        }
+        b'g' => {
+            let [a, b, d] = three(line);
+            Some(("ceil_of", ceil_of(a, b, d)))
+        }
+        b'q' => Some(("square_of", Some(square_of(cases::number(line, 1))))),
+        b's' => {
+            let square = scaled_square(cases::number(line, 1), cases::number(line, 2));
+            Some(("scaled_square", square))
+        }
+        b'k' => Some(("cube_of", Some(cube_of(cases::number(line, 1))))),
         _ => None,
     }
 }

@@ -4,11 +4,12 @@ use Rattle.std.specs.Prelude.{Result, Ok, Err}
 use Prim.Native.Nat.{ℕ, ◌≤◌, ◌<◌}
 use mathlib.Core.List.{List, [], ◌∷◌}
 use mathlib.Core.Logic.{◌↔◌}
-use mathlib.Core.Path.{◌≡◌, refl, ap}
+use mathlib.Core.Path.{◌≡◌, refl, sym, ap, ◌∙◌}
 use native.Mathlib.Omega.{arith}
 use borrow.Author.Tests.{le-leb, lt-leb}
 use lib.ListN.{length}
 use Rattle.questions.specs.declared.Answer.{Answer}
+use Rattle.questions.specs.Answers.{answer}
 use Rattle.questions.specs.Asking.{first_of, first_in}
 use Rattle.questions.specs.Buffers.{over}
 use Rattle.questions.specs.Outcomes.{Outcome, refused, written, written_if_met, fitting, fitted, buffer_after, length_of, answer_of}
@@ -16,6 +17,12 @@ use Rattle.questions.specs.Reasons.{FoundAs, Refuses}
 use Rattle.questions.proofs.Order.{then_nothing}
 
 module _ {R : Type 0} where
+  pub written_not_refused : {t : List ℕ} {r : R} → refused r ≡ written t → ⊥
+  written_not_refused e = cc
+
+  pub met_not_refused : {r : R} → ◌≡◌ {A = Result Unit R} (Err r) (Ok tt) → ⊥
+  met_not_refused e = cc
+
   pub if_met-written : (f : Result Unit R) (t u : List ℕ) → (written_if_met f t ≡ written u) ↔ ((f ≡ Ok tt) × (u ≡ t))
   unfolding written_if_met
   if_met-written (Ok tt) t u = (λ e. (refl, cc), λ h. cc h.1)
@@ -68,3 +75,11 @@ module _ {R : Type 0} (refusal_answer : R → Answer) where
     λ h. absurd (omega (arith, h.number, ap (λ (x : Answer). x.refusal) h.is)),
     λ h. cc h.0.found,
   )
+
+  -- what is answered, and left in the buffer
+  module _ (o : Outcome R) (a : Answer) (b : List ℕ) where
+    pub answers_refusal : (r : R) → o ≡ refused r → a ≡ refusal_answer r → (a ≡ answer_of refusal_answer o) × (b ≡ buffer_after o b)
+    answers_refusal r e h = (h ∙ sym (ap (answer_of refusal_answer) e), sym (buffer_refused b e))
+
+    pub answers_text : (t d : List ℕ) (n : ℕ) → o ≡ written t → n ≡ length t → a ≡ answer 0 0 n → d ≡ over t b → (a ≡ answer_of refusal_answer o) × (d ≡ buffer_after o b)
+    answers_text t d n e k h w = (h ∙ ap (answer 0 0) k ∙ sym (ap (answer_of refusal_answer) e), w ∙ sym (buffer_written b e))

@@ -1,6 +1,6 @@
 -- Questions in order, and their claims with the lines that they name: the first "no" is found exactly where there is a reason. Over any type R of
 -- refusals, of which `told` says what is answered.
-use Rattle.std.specs.Prelude.{Result, Ok, Err}
+use Rattle.std.specs.Prelude.{true, false, Result, Ok, Err}
 use Prim.Native.Nat.{ℕ, zero, suc, ◌+◌, ◌-◌, ◌<◌}
 use mathlib.Core.Path.{◌≡◌, refl, sym, ap, ◌∙◌, subst}
 use mathlib.Core.Logic.{◌⊎◌, inl, inr, ◌↔◌}
@@ -8,7 +8,7 @@ use mathlib.Core.List.{List, [], ◌∷◌}
 use native.Mathlib.Omega.{arith}
 use lib.ListN.{length, take, get_or}
 use Rattle.questions.specs.declared.Answer.{Answer}
-use Rattle.questions.specs.Claims.{Claim, Holds}
+use Rattle.questions.specs.Claims.{Claim, Holds, test}
 use Rattle.questions.specs.Answers.{answer}
 use Rattle.questions.specs.Asking.{Asked, ◌else◌, asked_from, ◌then◌, first_of, first_in}
 use Rattle.questions.specs.Reasons.{Lined, ◌at_line◌, lined_from, So, AllSo, FirstNo, place, length_reported, Reason, FoundAs}
@@ -73,6 +73,30 @@ module _ {R : Type 0} where
     pub first_passes : first_of cs ≡ Ok tt → first_in (cs ∷ qs) ≡ first_in qs
     unfolding first_in
     first_passes e = rw e
+
+  -- the first claim of a question: one that fails decides, one that holds passes on to the next
+  module _ (a : Claim) (r : R) (cs : List (Asked R)) (qs : List (List (Asked R))) where
+    pub fails_by : test a ≡ false → first_in (((a else r) ∷ cs) ∷ qs) ≡ Err r
+    unfolding first_of first_in
+    fails_by e = rw e
+
+    pub passes_by : test a ≡ true → first_in (((a else r) ∷ cs) ∷ qs) ≡ first_in (cs ∷ qs)
+    unfolding first_of first_in
+    passes_by e = rw e
+
+    pub fails : (Holds a → ⊥) → first_in (((a else r) ∷ cs) ∷ qs) ≡ Err r
+    fails n = fails_by (fails_test a n)
+
+    pub passes : Holds a → first_in (((a else r) ∷ cs) ∷ qs) ≡ first_in (cs ∷ qs)
+    passes h = passes_by (Holds-test a h)
+
+  pub next : (qs : List (List (Asked R))) → first_in ([] ∷ qs) ≡ first_in qs
+  unfolding first_of first_in
+  next qs = refl
+
+  pub none_left : first_in {R = R} [] ≡ Ok tt
+  unfolding first_in
+  none_left = refl
 
 -- Claims asked line by line, the first of them on this line: all are so, or one is the first that is not.
 module _ {R : Type 0} (refuse : ℕ → R) (d : Claim) where

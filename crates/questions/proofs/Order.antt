@@ -3,7 +3,7 @@ use Rattle.std.specs.Prelude.{Bool, true, false, cond, not, Some, Result, Ok, Er
 use Rattle.std.specs.List.{position_from, zip}
 use native.Mathlib.Omega.{arith}
 use Prim.Native.Nat.{ℕ, ◌+◌, ◌≤◌, ◌<◌}
-use mathlib.Core.Path.{◌≡◌, refl, ap, ◌∙◌}
+use mathlib.Core.Path.{◌≡◌, refl, sym, ap, ◌∙◌}
 use mathlib.Core.List.{List, [], ◌∷◌, ◌++◌, map}
 use native.Mathlib.Numerals.{add-one}
 use lib.ListN.{length, get_or, drop, drop_of_length-le}
@@ -70,18 +70,18 @@ module _ {A B R : Type 0} (f : A → B → Claim) (refuse : ℕ → R) (line : �
   found_from : (i : ℕ) (xs : List A) (ys : List B)
       → found_at refuse line (position_from (λ p. not (test (f p.0 p.1))) i (zip xs ys)) ≡ first_of (asked_from refuse (i + line) (pairwise f xs ys))
   unfolding asked_from first_of pairwise
-  found_from i [] ys = refl
+  found_from i [] ys = sym (lines_pass f refuse (i + line) [] ys 0 (omega arith))
   found_from i (x ∷ xs) [] = refl
   found_from i (x ∷ xs) (y ∷ ys) =
       let next : i + 1 + line ≡ i + line + 1 = omega arith in
-      by_test (test (f x y)) (found_from (i + 1) xs ys ∙ ap (λ (n : ℕ). first_of (asked_from refuse n (pairwise f xs ys))) next)
+      by_test (test (f x y)) refl (found_from (i + 1) xs ys ∙ ap (λ (n : ℕ). first_of (asked_from refuse n (pairwise f xs ys))) next)
     where
-      by_test : (t : Bool)
+      by_test : (t : Bool) → test (f x y) ≡ t
           → found_at refuse line (position_from (λ p. not (test (f p.0 p.1))) (i + 1) (zip xs ys)) ≡ first_of (asked_from refuse (i + line + 1) (pairwise f xs ys))
           → found_at refuse line (cond (not t) (Some i) (position_from (λ p. not (test (f p.0 p.1))) (i + 1) (zip xs ys)))
-          ≡ cond t (first_of (asked_from refuse (i + line + 1) (pairwise f xs ys))) (Err (refuse (i + line)))
-      by_test true e = e
-      by_test false e = refl
+          ≡ first_of (asked_from refuse (i + line) (pairwise f (x ∷ xs) (y ∷ ys)))
+      by_test true h e = e ∙ sym (line_passes f refuse (i + line) (x ∷ xs) (y ∷ ys) 0 x y (omega arith) (omega arith) h)
+      by_test false n e = sym (line_fails f refuse (i + line) (x ∷ xs) (y ∷ ys) 0 x y (omega arith) (omega arith) n)
 
   pub found_in_turn : (xs : List A) (ys : List B)
       → found_at refuse line (position_from (λ p. not (test (f p.0 p.1))) 0 (zip xs ys)) ≡ first_of (asked_from refuse line (pairwise f xs ys))

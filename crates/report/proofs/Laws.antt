@@ -1,3 +1,3 @@
 -- What crates above may cite of what is printed.
-pub use Rattle.report.proofs.Answers.{refused_prints}
-pub use Rattle.report.proofs.Promises.{printed_for, within}
+pub use Rattle.report.proofs.Answers.{refused_prints, text_printed, refusal_printed}
+pub use Rattle.report.proofs.Promises.{for_input, printed_for, within}

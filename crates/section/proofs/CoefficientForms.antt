@@ -1,12 +1,12 @@
 -- k as the code works it, at one value of q and past 0.35 on the pair, and its box and its room up to 0.6.
-use mathlib.Core.Path.{◌≡◌, refl, ◌∙◌}
+use mathlib.Core.Path.{◌≡◌, refl, ap, ◌∙◌}
 use mathlib.Core.Bool.{true}
 use Prim.Native.Nat.{ℕ, ◌*◌, ◌≤◌, ◌<◌}
 use native.Mathlib.Nat.{le_refl, mul-le-mul}
 use native.Mathlib.Omega.{arith}
 use borrow.Author.Tests.{le-leb, lt-leb}
 use lib.Dec.{lit<, lit≤}
-use Rattle.pair.specs.Pairs.{◌to◌, ratio, minus, times, cube_root}
+use Rattle.pair.specs.Pairs.{◌to◌, exact, ratio, minus, times, cube_root}
 use Rattle.pair.specs.Fits.{ratio_fits}
 use Rattle.pair.specs.Enclosure.{Inside}
 use Rattle.pair.specs.declared.Pair.{Pair}
@@ -14,7 +14,7 @@ use Rattle.pair.proofs.Laws.{same_scale, inside, minus_box, times_box, cube_root
 use Rattle.section.specs.Working.{scale_of, units, constant, k_past, k_at, k}
 use Rattle.section.specs.Parts.{Fine}
 use Rattle.section.specs.Room.{PastRoom, LipRatio}
-use Rattle.section.proofs.Ends.{scale, scale-Fine, scale_positive, constant_exact}
+use Rattle.section.proofs.Ends.{scale, scale-Fine, scale_positive, constant_exact, exact_ends}
 use Rattle.section.proofs.Rising.{Rises, rising}
 use Rattle.section.proofs.BoxRooms.{constant_box, ratio_room, plus_room, times_room, by_times}
 
@@ -28,6 +28,10 @@ k_at_most n q h e = rw (le-leb q (units n 35 100) (omega arith)) e
 pub k_at_past : (n q : ℕ) {x : Pair} → n * 350000 < q → x ≡ k_past n (q to q) → x ≡ k_at n q
 unfolding k_at
 k_at_past n q h e = rw (lt-leb q (units n 35 100) (omega arith)) e
+
+-- as the code has q, which is exact
+pub k_at_exact : (n q : ℕ) {p x : Pair} → n * 350000 < q → p ≡ exact q → x ≡ k_past n p → x ≡ k_at n q
+k_at_exact n q h d e = k_at_past n q h (e ∙ ap (k_past n) (d ∙ exact_ends q))
 
 module _ {n : ℕ} {q : Pair} (f : Fine n) (r : LipRatio n q) (past : n * 350000 < q.lo) where
   -- what q is past 0.35
@@ -104,4 +108,4 @@ k_past_is {n} {q} f r past e =
     rw (lt-leb q.lo (units n 35 100) (omega arith), lt-leb q.hi (units n 35 100) (omega (arith, r.order)))
     (e ∙ (λ i. low_end f.some r.order i to high_end f.some r.order i))
 
-pub ruleset at_one_ratio = (scale-Fine, half_room, k_at_most, k_at_past)
+pub ruleset at_one_ratio = (scale-Fine, half_room, k_at_most, k_at_exact)

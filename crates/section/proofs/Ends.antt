@@ -1,16 +1,18 @@
 -- A fineness n and a finer one m × n: their scales, an exact value at both, and the smaller and the larger of two numbers at both.
 use Prim.Native.Nat.{ℕ, min, max, ◌*◌, ◌%◌, ◌^◌, ◌≤◌, ◌<◌, ◌∣◌}
-use mathlib.Core.Path.{◌≡◌, refl}
+use mathlib.Core.Path.{◌≡◌, refl, sym, ap, ◌∙◌}
 use mathlib.Core.Bool.{true}
 use native.Mathlib.Nat.{mul_comm, mul-pos, mul-le-mul_left, mul-le-mul_right, min-le_left, min-le_right, le-max_left, le-max_right}
 use native.Mathlib.Nat.{mul-div_assoc, div-mul_cancel, dvd_of_mod-eq-zero, mod-eq-zero_of_dvd, dvd-mul_left_of_dvd}
 use native.Mathlib.Omega.{arith}
 use lib.Dec.{lit<, lit≤}
+use Rattle.pair.specs.Pairs.{◌to◌, exact, ratio}
 use Rattle.pair.specs.Fits.{exact_ratio}
 use Rattle.pair.specs.Enclosure.{Finer, Inside}
-use Rattle.pair.proofs.Laws.{same_scale, ratio-Inside, exact_ratio_lem, ratio_box}
+use Rattle.pair.specs.declared.Pair.{Pair}
+use Rattle.pair.proofs.Laws.{same_scale, ratio-exact, ratio-Inside, exact_ratio_lem, ratio_box}
 use Rattle.pair.proofs.Numbers.{min_down, min_up}
-use Rattle.section.specs.Working.{scale_of, constant, units}
+use Rattle.section.specs.Working.{scale_of, constant, whole, units}
 use Rattle.section.specs.Constants.{Exact, ConstantsExact}
 use Rattle.section.specs.declared.scale.Scale.{Scale}
 use Rattle.section.specs.Parts.{Fine}
@@ -40,6 +42,19 @@ scale_most f = omega (arith, f.most)
 -- so a number in millionths up to this one is a word in units of 1/S
 pub word_at : {n : ℕ} (b : ℕ) → Fine n → b ≤ 1844674407370955161 → b * n < 2 ^ 64
 word_at {n} b f h = omega (arith, mul-le-mul_left {m = n} {n = 10} b f.most)
+
+-- both ends of an exact value are its number
+pub exact_ends : (v : ℕ) → exact v ≡ (v to v)
+exact_ends v =
+    let as_ratio : Inside 1 (ratio 1 v 1) (v to v) = ratio_box v 1 v (same_scale (lit< tt)) (lit< tt) refl in
+    let box : Inside 1 (exact v) (v to v) = rw (ratio-exact 1 v 1 v (lit< tt) refl) at as_ratio in
+    let low : (exact v).lo ≡ v = omega (arith, box.low, box.mid, box.high) in
+    let high : (exact v).hi ≡ v = omega (arith, box.low, box.mid, box.high) in
+    λ i. low i to high i
+
+-- and 1 is S units
+pub one_exact : (n : ℕ) {u : ℕ} {p : Pair} → u ≡ scale_of n → p ≡ exact u → p ≡ whole n 1
+one_exact n e h = h ∙ ap exact e ∙ sym (ratio-exact (scale_of n) 1 1 (scale_of n) (lit< tt) (omega arith))
 
 -- b divides a × S at every fineness where it divides 1,000,000
 scale_divided : (n a b : ℕ) → 1000000 % b ≡ 0 → b ∣ a * (n * 1000000)

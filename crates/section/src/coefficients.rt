@@ -19,7 +19,7 @@ fn coefficient_past(s: Scale, q: Pair) -> Pair
 }
 
 // At one value of q: 0.5 up to 0.35.
-#[tactic(auto, using(crate::proofs::CoefficientForms::at_one_ratio), unfolding(pair::specs::Pairs::exact))]
+#[tactic(auto, using(crate::proofs::CoefficientForms::at_one_ratio))]
 fn coefficient_at(s: Scale, q: u64) -> Pair
     requires { q ≤ 600000 * s.fineness }
     ensures { result ≡ k_at s.fineness q }

@@ -21,7 +21,7 @@ impl Scale {
     }
 
     // The exact value 1.
-    #[tactic(auto, unfolding(pair::specs::Pairs::ratio, pair::specs::Pairs::exact))]
+    #[tactic(auto, using(crate::proofs::Ends::one_exact))]
     pub fn one(self) -> Pair
         ensures { result ≡ whole self.fineness 1 }
     {

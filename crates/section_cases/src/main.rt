@@ -11,7 +11,7 @@ use questions::answers::Reason;
 use section::{SHEET_LINES, Sheet, SoundSheet};
 use std::{array, io};
 
-fn sheet_in(line: &str) -> Sheet {
+fn sheet_in(line: &[u8]) -> Sheet {
     let numbers: [u64; SHEET_LINES] = array::from_fn(|i| cases::number(line, i));
     Sheet::from(numbers)
 }

@@ -28,18 +28,44 @@ fn is_ours(name: &str) -> bool {
     in_repository("crates").join(name).is_dir()
 }
 
-/// The files of other crates' proofs/ that a text names and may not: `Rattle.OTHER.proofs.FILE`.
-/// The text is in a folder of the crate `own`.
-fn past_what_is_offered(own: &str, folder: &str, text: &str) -> Vec<String> {
+/// Whether a text in a folder of the crate `own` names a file of another crate's proofs/ that
+/// it may not.
+fn is_past(own: &str, folder: &str, other: &str, file: &str) -> bool {
+    other != own && is_ours(other) && (folder == "specs" || !is_offered(other, file))
+}
+
+/// The imports of such a text that may not be: `Rattle.OTHER.proofs.FILE`.
+fn imported_past(own: &str, folder: &str, text: &str) -> Vec<String> {
     let ends = |c: char| c.is_whitespace() || "{;".contains(c);
     let paths = text.split("Rattle.").skip(1);
     let paths = paths.filter_map(|path| path.split(ends).next());
     let past = paths.filter(|path| match path.split_once(".proofs.") {
-        Some((other, _)) if other == own || !is_ours(other) => false,
-        Some((other, file)) => folder == "specs" || !is_offered(other, file.trim_end_matches('.')),
+        Some((other, file)) => is_past(own, folder, other, file.trim_end_matches('.')),
         None => false,
     });
     past.map(str::to_string).collect()
+}
+
+/// The laws that its tactics cite and may not: `OTHER::proofs::FILE::LAW`.
+fn cited_past(own: &str, folder: &str, text: &str) -> Vec<String> {
+    let ends = |c: char| c.is_whitespace() || "(),{};".contains(c);
+    let past = text
+        .split(ends)
+        .filter(|path| match path.split_once("::proofs::") {
+            Some((other, cited)) => {
+                let (file, _) = cited.rsplit_once("::").unwrap_or((cited, ""));
+                is_past(own, folder, other, &file.replace("::", "."))
+            }
+            None => false,
+        });
+    past.map(str::to_string).collect()
+}
+
+/// All that such a text names of other crates' proofs/ and may not, in either spelling.
+fn past_what_is_offered(own: &str, folder: &str, text: &str) -> Vec<String> {
+    let mut past = imported_past(own, folder, text);
+    past.extend(cited_past(own, folder, text));
+    past
 }
 
 /// The same of the files below a folder of the crate `own`, each with its name.
@@ -116,15 +142,47 @@ fn planted_imports_are_found() {
     );
 }
 
+#[test]
+fn planted_citations_are_found() {
+    for (cited, law) in [
+        (
+            "using(pair::proofs::Nesting::inside)",
+            "pair::proofs::Nesting::inside",
+        ),
+        (
+            "using(crate::proofs::Forms::own, lines::proofs::RowLaws::row_size), unfolding(pair::specs::Pairs::times)",
+            "lines::proofs::RowLaws::row_size",
+        ),
+        (
+            "using(section::proofs::Numbers::n)",
+            "section::proofs::Numbers::n",
+        ),
+        (
+            "using(lines::proofs::Laws::Keys::key)",
+            "lines::proofs::Laws::Keys::key",
+        ),
+    ] {
+        let text = format!("// Above.\n#[tactic(auto, {cited})]\nfn planted() {{\n}}\n");
+        assert_eq!(past_what_is_offered("catalogue", "src", &text), [law]);
+    }
+}
+
 /// How a path is spelt is the toolchain's: were it spelt otherwise, nothing would be found.
 #[test]
 fn imports_of_the_repository_are_seen() {
-    let text = file_text("crates/report/proofs/Promises.antt");
-    let seen = past_what_is_offered("report", "specs", &text);
-    assert!(
-        seen.contains(&"certificate.proofs.Laws.".to_string()),
-        "{seen:?}"
-    );
+    for (file, path) in [
+        (
+            "crates/report/proofs/Promises.antt",
+            "certificate.proofs.Laws.",
+        ),
+        (
+            "crates/report/src/printing.rt",
+            "lines::proofs::Laws::number_line_lem",
+        ),
+    ] {
+        let seen = past_what_is_offered("report", "specs", &file_text(file));
+        assert!(seen.contains(&path.to_string()), "{seen:?}");
+    }
 }
 
 #[test]
@@ -137,6 +195,10 @@ fn what_is_offered_is_let_pass() {
         "use Rattle.catalogue.proofs.Ends.{finer}",
         "use Rattle.pair.specs.Pairs.{times}",
         "use Rattle.std.proofs.Common.{ap}",
+        "#[tactic(auto, using(lines::proofs::Laws::line_most, pair::proofs::Numbers::by_test))]",
+        "#[tactic(auto, using(crate::proofs::Told::told, catalogue::proofs::Ends::finer))]",
+        "#[tactic(auto, using(certificate::proofs::certificates::write::Reads::law))]",
+        "#[tactic(auto, using(std::proofs::lemmas::Slice::overwrites), unfolding(pair::specs::Pairs::plus))]",
     ] {
         assert_eq!(
             past_what_is_offered("catalogue", "proofs", line),

@@ -1,23 +1,17 @@
 -- What is printed for what was kept and counted is what is printed for all that the reader had.
-use Rattle.std.proofs.Common.{◌≡◌, ◌∙◌, ℕ, length, arith}
-use lib.ListN.{replicate, length-replicate}
-use Rattle.certificate.proofs.Laws.{longest_sheet}
+use Rattle.std.proofs.Common.{arith}
 use Rattle.report.proofs.Laws.{printed_for, within}
-use Rattle.survey.specs.Inputs.{most_kept}
 use Rattle.survey.specs.Printed.{survey_prints}
 use Rattle.survey.proofs.Kept.{survey_read}
 use Rattle.survey.proofs.SurveyProgramLONGEST_REPORT.write_for.Goals as goal
 
--- The buffer has room for as many bytes as are kept. By the law of such lists, since the list itself is too long to be computed.
-room : length (replicate {A = ℕ} 184001 0) ≡ most_kept
-room = length-replicate {A = ℕ} 184001 0 ∙ omega (arith, longest_sheet)
-
 pub count_all-requires : goal.count_all-requires
-count_all-requires g c = omega (arith, c.in_ok-kept.ensures.within, room)
+count_all-requires g c = omega (arith, c.in_ok-kept.ensures.within, c.catalogue_buffer-buffer.ensures)
 
 pub returns : goal.returns
 returns g c =
     let read = c.in_ok-kept.ensures in
+    let room = c.catalogue_buffer-buffer.ensures in
     let wrote = c.survey_prints.ensures in
     let same = survey_read _ _ _ _ c.in_ok-lines.lines (omega (arith, read.within, room)) read.bytes
     (λ short. read.end (omega (arith, short, room))) c.in_ok-lines.ensures.read in

@@ -2,19 +2,20 @@
 use Rattle.std.proofs.Common.{◌/◌, ◌∙◌}
 use Rattle.std.proofs.Math.Nat.{le_trans}
 use Rattle.pair.specs.Rounding.{ceil_div}
-use Rattle.pair.specs.Pairs.{◌to◌, exact}
+use Rattle.pair.specs.Pairs.{◌to◌}
 use Rattle.section.specs.Working.{ρ}
+use Rattle.section.proofs.Ends.{exact_ends}
 use Rattle.section.proofs.ShareForms.{upper_end, lower_end, full_end, share_end}
 use Rattle.section.proofs.factors.Slenderness.share.Goals as goal
 
 pub returns-then-hi-limit : goal.returns-then-hi-limit
-unfolding ρ exact
+unfolding ρ
 returns-then-hi-limit c =
     let upper = upper_end c.args.self c.args.curve in
     let lower = lower_end c.args.self c.args.curve in
     let all = c.if-hi-limit.true in
     let S = c.units-units.ensures in
-    c.exact.ensures ∙ (λ i. (S ∙ full_end upper ◌/◌ all) i to (S ∙ full_end lower ceil_div (le_trans c.args.self.order all)) i)
+    c.exact.ensures ∙ exact_ends c.units-units.result ∙ (λ i. (S ∙ full_end upper ◌/◌ all) i to (S ∙ full_end lower ceil_div (le_trans c.args.self.order all)) i)
 
 pub returns-then-lo-limit : goal.returns-then-lo-limit
 unfolding ρ
