@@ -5,10 +5,11 @@ use Rattle.std.specs.Fn.{Mut, Called}
 use Rattle.std.specs.List.{FoldsTo, position_from}
 use Rattle.std.specs.Option.{MatchOption, unwrap_or}
 use denote.Ref.{Bor}
+use Rattle.lines.specs.Ascii.{newline}
 
--- where the first line ends: at its newline, which is byte 10, or with the bytes
+-- where the first line ends: at its newline, or with the bytes
 abbrev pub end_of_line : List ℕ → ℕ
-end_of_line s = unwrap_or (position_from (λ b. b == 10) 0 s) (length s)
+end_of_line s = unwrap_or (position_from (λ b. b == newline) 0 s) (length s)
 
 -- the first line of the bytes s is taken, without its newline, and t is left; or there is none
 abbrev pub FirstLine : List ℕ → Option (Bor (List ℕ)) → List ℕ → Type 0

@@ -1,30 +1,22 @@
 // What the programs that run cases share: the lines of standard input, and the numbers of a line.
 #![tactic(auto)]
 
-ghost use Rattle.std.specs.Prelude.{◌<◌, ◌≤◌, ◌≡◌, ◌^◌, unsigned_abs, List, ℕ, OnOk, IfSome, length, ◌==◌, drop, suc};
-ghost use Rattle.std.specs.List.{position_from};
+ghost use Rattle.std.specs.Prelude.{◌<◌, ◌≤◌, ◌≡◌, ◌^◌, unsigned_abs, List, ℕ, OnOk, length, drop, suc};
 ghost use Rattle.std.specs.Iterator.{at_most};
 ghost use Rattle.std.specs.Io.KnownBytes.{Consumes};
 ghost use Rattle.cases.specs.Lines.{FirstLine, RunsOn, end_of_line};
 
+use lines::splitting;
 use report::streams;
 use std::io;
 use std::io::Read;
-
-// The place of the first newline.
-fn first_newline(s: &[u8]) -> Option<usize>
-    ensures value { result ≡ position_from (λ b. b == 10) 0 s.now }
-    ensures within { IfSome result (λ n. n < length s.now) }
-{
-    s.iter().position(|byte| *byte == b'\n')
-}
 
 // Where the first line ends: at its newline, or with the bytes.
 fn end_of_line(s: &[u8]) -> usize
     ensures value { result ≡ end_of_line s.now }
     ensures upper_bound { result ≤ length s.now }
 {
-    first_newline(s).unwrap_or(s.len())
+    splitting::first_newline(s).unwrap_or(s.len())
 }
 
 // What stands behind a place, or nothing.

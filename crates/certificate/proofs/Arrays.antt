@@ -1,22 +1,31 @@
 -- The arrays of the code: the keys, and those made of another element by element.
-use Prim.Native.Nat.{ℕ, ◌<◌}
+use Prim.Native.Nat.{ℕ, ◌<◌, ◌≤◌}
 use mathlib.Core.List.{List, [], ◌∷◌, map}
 use native.Mathlib.Omega.{arith}
 use denote.Param.Members.{Mut, Called}
 use mathlib.Core.Path.{◌≡◌, refl, sym, ap, ◌∙◌, subst}
 use lib.ListN.{length, length-map, get_or, get_or-map, take}
+use lib.Seq.{length-take-le}
 use Rattle.std.proofs.lemmas.List.{take-map, ext_get_or}
 use Rattle.std.specs.Array.{list_steps, IsMapOf}
 use Rattle.std.specs.Iterator.{Yields, CallableAtEachTurn}
 use Rattle.lines.specs.declared.keys.Key.{Key}
 use Rattle.lines.specs.Fields.{field}
 use Rattle.section.specs.Sheets.{sheet_lines}
-use Rattle.certificate.specs.Keys.{sheet_fields, figure_fields, certificate_fields}
+use Rattle.certificate.specs.Keys.{sheet_fields, figure_fields, certificate_lines, certificate_fields}
 
--- the first keys of a certificate are those of a sheet
+-- the first keys of a certificate are those of its first lines, and of a sheet
+pub fields_of_first : (count : ℕ) (ks : List Key) → map field ks ≡ certificate_fields → map field (take count ks) ≡ take count certificate_fields
+fields_of_first count ks e = sym (take-map field count ks) ∙ ap (take count) e
+
+pub count_of_first : (count : ℕ) (ks : List Key) → length ks ≡ certificate_lines → count ≤ certificate_lines → length (take count ks) ≡ count
+count_of_first count ks n h = length-take-le count ks (omega (arith, n))
+
+pub ruleset first_keys = (fields_of_first, count_of_first)
+
 pub sheet_keys : (ks : List Key) → map field ks ≡ certificate_fields → map field (take sheet_lines ks) ≡ sheet_fields
 unfolding certificate_fields sheet_fields figure_fields
-sheet_keys ks e = sym (take-map field sheet_lines ks) ∙ ap (take sheet_lines) e
+sheet_keys ks e = fields_of_first sheet_lines ks e
 
 pub sheet_field_count : length sheet_fields ≡ sheet_lines
 unfolding sheet_fields

@@ -1,5 +1,4 @@
 pub mod Arrays
-pub mod ReadLoop
 pub mod Lengths
 pub mod Shown
 pub mod Ties

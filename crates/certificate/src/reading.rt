@@ -5,7 +5,7 @@ ghost use Rattle.lines.specs.Texts.{Words};
 ghost use Rattle.section.specs.Sheets.{sheet_lines};
 ghost use Rattle.certificate.specs.declared.Refusal.TheVariants.{Spelling};
 ghost use Rattle.certificate.specs.Keys.{certificate_lines, certificate_fields};
-ghost use Rattle.certificate.specs.Forms.{lines_of};
+ghost use Rattle.lines.specs.Forms.{padded};
 ghost use Rattle.certificate.specs.Certificates.{sheet_shown, sheet_in, certificate_in};
 
 use crate::keys::keys;
@@ -24,22 +24,12 @@ impl From<BadLine> for Refusal {
 
 // Reads the first `count` lines of a certificate, behind which nothing may stand: their values, and
 // zeros behind these.
-#[tactic(auto, using(crate::proofs::ReadLoop::first_lines))]
+#[tactic(auto, using(crate::proofs::Arrays::first_keys))]
 pub fn read_lines(s: &[u8], count: usize) -> Result<[i128; CERTIFICATE_LINES], BadLine>
     requires { count ≤ certificate_lines }
-    ensures { result ≡ lines_of (read_lines (take count certificate_fields) s.now) }
+    ensures { result ≡ padded certificate_lines (read_lines (take count certificate_fields) s.now) }
 {
-    let keys = &keys()[..count];
-    let mut values = [0; CERTIFICATE_LINES];
-    let mut rest = s;
-    for (i, key) in keys.iter().enumerate() {
-        (values[i], rest) = key.read(rest).ok_or(BadLine(i + 1))?;
-    }
-    if rest.is_empty() {
-        Ok(values)
-    } else {
-        Err(BadLine(count + 1))
-    }
+    reading::first_lines(s, &keys()[..count])
 }
 
 // The values of a certificate's lines, or that one is bad.

@@ -9,7 +9,7 @@ pub use Rattle.lines.proofs.SpeltLaws.{all_unsigned, longest_join, numbers_above
 pub use Rattle.lines.proofs.ReadFound.{begins_text, line_shorter}
 pub use Rattle.lines.proofs.ReadBack.{begins_back, line_word, spelt_words}
 pub use Rattle.lines.proofs.ReadTables.{by_reading, cut_behind, reads_bad, reads_values, text_tells_values}
-pub use Rattle.lines.proofs.ReadLoop.{Begun, line_bad, line_more, no_key, none_read, table_behind, table_end}
+pub use Rattle.lines.proofs.ReadLoop.{Begun, none_read}
 pub use Rattle.lines.proofs.SplitLaws.{end_behind, end_here, end_more}
 pub use Rattle.lines.proofs.SplitLaws.{split_count, split_joined, split_lines_lem, split_next, split_none, split_short, split_some, split_unique, split_whole}
 pub use Rattle.lines.proofs.CountLaws.{newlines-append, newlines_most, unended-append, unended_last, unended_most, unended_none}

@@ -7,7 +7,7 @@ ghost use Rattle.lines.specs.Fields.{field};
 ghost use Rattle.lines.specs.Texts.{most_digits};
 ghost use Rattle.lines.specs.Reading.{first, rest, is_digit, ended, read_digits, read_fixed, read_number, read_signed};
 ghost use Rattle.lines.specs.Reading.{read_letter, read_value, read_line, read_lines};
-ghost use Rattle.lines.specs.Forms.{found, found_number, reading};
+ghost use Rattle.lines.specs.Forms.{found, found_number, reading, padded};
 
 use crate::keys::{Key, Kind, NEWLINE};
 
@@ -142,11 +142,11 @@ impl Key<'_> {
 #[derive(Clone, Copy, Debug, PartialEq, Eq)]
 pub struct BadLine(pub usize);
 
-// The values of the lines with these keys, behind which nothing may stand.
-#[tactic(auto, using(crate::proofs::ReadLoop::next_line))]
-pub fn table<const N: usize>(s: &[u8], keys: &[Key]) -> Result<[i128; N], BadLine>
-    requires { length keys.now ≡ N }
-    ensures { reading result ≡ read_lines (map field keys.now) s.now }
+// The values of the lines with these keys, behind which nothing may stand; zeros stand behind the values.
+#[tactic(auto, using(crate::proofs::ReadLoop::first_read))]
+pub fn first_lines<const N: usize>(s: &[u8], keys: &[Key]) -> Result<[i128; N], BadLine>
+    requires { length keys.now ≤ N }
+    ensures { result ≡ padded N (read_lines (map field keys.now) s.now) }
 {
     let mut values = [0; N];
     let mut rest = s;
@@ -156,6 +156,15 @@ pub fn table<const N: usize>(s: &[u8], keys: &[Key]) -> Result<[i128; N], BadLin
     if rest.is_empty() {
         Ok(values)
     } else {
-        Err(BadLine(N + 1))
+        Err(BadLine(keys.len() + 1))
     }
+}
+
+// The same of as many keys as there are values.
+#[tactic(auto, using(crate::proofs::ReadLoop::all_read))]
+pub fn table<const N: usize>(s: &[u8], keys: &[Key]) -> Result<[i128; N], BadLine>
+    requires { length keys.now ≡ N }
+    ensures { reading result ≡ read_lines (map field keys.now) s.now }
+{
+    first_lines(s, keys)
 }

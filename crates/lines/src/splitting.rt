@@ -1,5 +1,5 @@
 // Splitting bytes into lines, and counting them.
-ghost use Rattle.std.specs.Prelude.{◌≡◌, ◌≤◌, ◌==◌, length};
+ghost use Rattle.std.specs.Prelude.{◌≡◌, ◌<◌, ◌≤◌, ◌==◌, length, IfSome};
 ghost use Rattle.std.specs.List.{position_from};
 ghost use Rattle.lines.specs.Ascii.{newline};
 ghost use Rattle.lines.specs.Splitting.{first_line, line_end, newlines, unended};
@@ -7,8 +7,9 @@ ghost use Rattle.lines.specs.Splitting.{first_line, line_end, newlines, unended}
 use crate::keys::NEWLINE;
 
 // The place of the first newline.
-fn first_newline(s: &[u8]) -> Option<usize>
-    ensures { result ≡ position_from (λ b. b == newline) 0 s.now }
+pub fn first_newline(s: &[u8]) -> Option<usize>
+    ensures value { result ≡ position_from (λ b. b == newline) 0 s.now }
+    ensures within { IfSome result (λ place. place < length s.now) }
 {
     s.iter().position(|b| *b == NEWLINE)
 }
