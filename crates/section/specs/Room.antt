@@ -186,7 +186,8 @@ module _ (n : ℕ) where
   pub record RoundRoom (x : Member) (χ₁ χ₂ : Pair) : Type 0 where
     pub one : StiffenerRoom x.common.cp x.flanges.one χ₁
     pub two : StiffenerRoom x.common.cp x.flanges.two χ₂
-    pub rest : FactorsRoom x.common x.flanges.one.bp x.flanges.two.bp (stiffener_of n x.common.cp x.flanges.one χ₁) (stiffener_of n x.common.cp x.flanges.two χ₂)
+    pub rest : FactorsRoom x.common x.flanges.one.bp x.flanges.two.bp (stiffener_of n x.common.cp x.flanges.one χ₁)
+        (stiffener_of n x.common.cp x.flanges.two χ₂)
 
   -- a factor of at most 1
   pub record Factor (x : Pair) : Type 0 where

@@ -35,7 +35,8 @@ module _ (n : ℕ) where
     pub one : times_fits (scale_of n) x.flanges.one.stiffener.a x.flanges.one.chi ≡ true
     pub two : times_fits (scale_of n) x.flanges.two.stiffener.a x.flanges.two.chi ≡ true
     pub first : plus_fits (x.flanges.one.be1 ⊕ x.flanges.two.be1 ⊕ x.p ⊕ x.m) (x.flanges.one.stiffener.a ⊗ x.flanges.one.chi) ≡ true
-    pub second : plus_fits (x.flanges.one.be1 ⊕ x.flanges.two.be1 ⊕ x.p ⊕ x.m ⊕ x.flanges.one.stiffener.a ⊗ x.flanges.one.chi) (x.flanges.two.stiffener.a ⊗ x.flanges.two.chi) ≡ true
+    pub second : plus_fits (x.flanges.one.be1 ⊕ x.flanges.two.be1 ⊕ x.p ⊕ x.m ⊕ x.flanges.one.stiffener.a ⊗ x.flanges.one.chi)
+        (x.flanges.two.stiffener.a ⊗ x.flanges.two.chi) ≡ true
 
   pub record LipMomentRoom (hp lip χ₂ : Pair) : Type 0 where
     pub force : times_fits (scale_of n) lip χ₂ ≡ true
@@ -63,7 +64,9 @@ module _ (n : ℕ) where
 
   -- the moment of flange 2 and its lip
   abbrev pub outer : Pair → EffectiveParts → SignedPair
-  outer hp x = lip_moment n hp x.flanges.two.stiffener.c x.flanges.two.chi ⊞ flange_moment n hp x.flanges.two.be1 x.flanges.two.stiffener.be2 x.flanges.two.chi
+  outer hp x =
+      lip_moment n hp x.flanges.two.stiffener.c x.flanges.two.chi
+      ⊞ flange_moment n hp x.flanges.two.be1 x.flanges.two.stiffener.be2 x.flanges.two.chi
 
   pub record OuterRoom (hp : Pair) (x : EffectiveParts) : Type 0 where
     pub lip : LipMomentRoom hp x.flanges.two.stiffener.c x.flanges.two.chi

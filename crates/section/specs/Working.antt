@@ -211,7 +211,9 @@ module _ (n : ℕ) where
 
   -- L = be1 of flange 1 + be1 of flange 2 + the web's two kept parts, p at flange 1 and m at flange 2 + a1×χ1 + a2×χ2 (11)
   unfoldable pub kept_length : EffectiveParts → Pair
-  kept_length x = x.flanges.one.be1 ⊕ x.flanges.two.be1 ⊕ x.p ⊕ x.m ⊕ x.flanges.one.stiffener.a ⊗ x.flanges.one.chi ⊕ x.flanges.two.stiffener.a ⊗ x.flanges.two.chi
+  kept_length x =
+      x.flanges.one.be1 ⊕ x.flanges.two.be1 ⊕ x.p ⊕ x.m
+      ⊕ x.flanges.one.stiffener.a ⊗ x.flanges.one.chi ⊕ x.flanges.two.stiffener.a ⊗ x.flanges.two.chi
 
   -- c2×χ2×(hp − c2÷2), which lies below zero where the lip is longer than twice hp
   unfoldable pub lip_moment : Pair → Pair → Pair → SignedPair
@@ -284,7 +286,10 @@ module _ (n : ℕ) where
   abbrev pub member_of : Sheet → Member
   member_of q =
       let flange = flange_of (mm q.t.0) (whole q.fyb) (cp_of q) in
-      record { common = record { steel = record { t = q.t; fyb = q.fyb }; hp = hp_of q; cp = cp_of q }; flanges = record { one = flange (bp₁_of q); two = flange (bp₂_of q) } }
+      record {
+        common = record { steel = record { t = q.t; fyb = q.fyb }; hp = hp_of q; cp = cp_of q };
+        flanges = record { one = flange (bp₁_of q); two = flange (bp₂_of q) };
+      }
 
   -- the working of a sheet: effective area = t×L, both χ, z, the gross z, and the shift = z − gross z
   unfoldable pub worked : Sheet → Worked
