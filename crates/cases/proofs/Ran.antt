@@ -1,15 +1,17 @@
--- What `try_for_each` says of the lines of some bytes, where each call answers Ok.
+-- What `try_for_each` says of the lines of some bytes and of a text, where each call answers Ok.
 use Rattle.std.proofs.Common.{◌≡◌, ◌∙◌, ℕ, List, [], ◌∷◌, map, None, Some, Ok, Err, OnOk, ap, subst}
 use Rattle.std.specs.declared.option.Option.{Option}
 use Rattle.std.specs.declared.result.Result.{Result}
+use Rattle.std.specs.declared.str.Lines.{Lines}
 use Rattle.std.specs.Fn.{Mut, Called}
 use Rattle.std.specs.Iterator.{YieldsThen}
 use Rattle.std.specs.List.{FoldsTo}
 use Rattle.std.specs.Bool.{MatchBool}
 use Rattle.std.specs.Option.{MatchOption}
 use Rattle.std.specs.Result.{IsErr}
+use Rattle.std.specs.Str.Iter.{lines_steps, lines_rest}
 use denote.Ref.{Bor}
-use Rattle.cases.specs.Lines.{FirstLine, LinesOf, RunsOn}
+use Rattle.cases.specs.Lines.{FirstLine, LinesOf, RunsOn, RunsOnBytes}
 
 -- the lines that were taken until there was none are all lines
 module _ {S : Type 0} (rest : S → List ℕ) where
@@ -36,10 +38,18 @@ module _ {F E : Type 0} (g : Mut F (Bor (List ℕ) × Unit {0}) (Result (Unit {0
       let j = t.0 in
       (j, subst (λ r. Called g f (x, tt) r j) t.1.2 t.1.1, each_ok xs j last t.2)
 
-  pub ran : {S : Type 0} (rest : S → List ℕ) (X : Type 0) (Y : Bor (List ℕ) → Type 0) (f last : F) (first behind : S) (xs : List (Bor (List ℕ))) (o : Option (Bor (List ℕ)))
+  pub ran_on_bytes : {S : Type 0} (rest : S → List ℕ) (X : Type 0) (Y : Bor (List ℕ) → Type 0) (f last : F) (first behind : S) (xs : List (Bor (List ℕ))) (o : Option (Bor (List ℕ)))
       (r : Result (Unit {0}) E) → YieldsThen (Takes rest) first xs o behind → FoldsTo Turn f xs last → MatchOption o X Y
-      → ((x : Bor (List ℕ)) → Y x → IsErr r) → OnOk r (RunsOn g f (rest first))
-  ran rest X Y f last first behind xs o (Err e) all called end broke = tt
-  ran rest X Y f last first behind xs (Some x) (Ok u) all called end broke = absurd (subst (λ b. MatchBool b ⊥ (Unit {0})) (broke x end) tt)
-  ran rest X Y f last first behind xs None (Ok u) all called end broke =
+      → ((x : Bor (List ℕ)) → Y x → IsErr r) → OnOk r (RunsOnBytes g f (rest first))
+  ran_on_bytes rest X Y f last first behind xs o (Err e) all called end broke = tt
+  ran_on_bytes rest X Y f last first behind xs (Some x) (Ok u) all called end broke = absurd (subst (λ b. MatchBool b ⊥ (Unit {0})) (broke x end) tt)
+  ran_on_bytes rest X Y f last first behind xs None (Ok u) all called end broke =
       record { lines = xs; last = last; all = all_lines rest xs first behind all; called = each_ok xs f last called }
+
+  pub ran : (X : Type 0) (Y : Bor (List ℕ) → Type 0) (f last : F) (text : List ℕ) (first behind : Lines) (xs : List (Bor (List ℕ))) (o : Option (Bor (List ℕ)))
+      (r : Result (Unit {0}) E) → lines_rest first ≡ text → YieldsThen lines_steps first xs o behind → FoldsTo Turn f xs last → MatchOption o X Y
+      → ((x : Bor (List ℕ)) → Y x → IsErr r) → OnOk r (RunsOn g f text)
+  ran X Y f last text first behind xs o (Err e) of_text all called end broke = tt
+  ran X Y f last text first behind xs (Some x) (Ok u) of_text all called end broke = absurd (subst (λ b. MatchBool b ⊥ (Unit {0})) (broke x end) tt)
+  ran X Y f last text first behind xs None (Ok u) of_text all called end broke =
+      record { first = first; behind = behind; lines = xs; last = last; of_text = of_text; all = all; called = each_ok xs f last called }

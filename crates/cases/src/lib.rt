@@ -4,12 +4,15 @@
 ghost use Rattle.std.specs.Prelude.{◌<◌, ◌≤◌, ◌≡◌, ◌^◌, unsigned_abs, List, ℕ, OnOk, length, drop, suc};
 ghost use Rattle.std.specs.Iterator.{at_most};
 ghost use Rattle.std.specs.Io.KnownBytes.{Consumes};
-ghost use Rattle.cases.specs.Lines.{FirstLine, RunsOn, end_of_line};
+ghost use Rattle.cases.specs.Lines.{FirstLine, RunsOn, RunsOnBytes, end_of_line};
 
 use lines::splitting;
 use report::streams;
-use std::io;
-use std::io::Read;
+use std::io::{ErrorKind, Read};
+use std::{io, str};
+
+#[cfg(test)]
+mod tests;
 
 // Where the first line ends: at its newline, or with the bytes.
 fn end_of_line(s: &[u8]) -> usize
@@ -51,34 +54,71 @@ impl<'a> Iterator for Lines<'a> {
 }
 
 // Runs `run` on each line of some bytes, in their order, until one fails.
-pub fn each_line_of<F: FnMut(&[u8]) -> io::Result<()>>(bytes: &[u8], run: F) -> io::Result<()>
+pub fn each_line_of_bytes<F: FnMut(&[u8]) -> io::Result<()>>(bytes: &[u8], run: F) -> io::Result<()>
     requires { F.IsAlwaysCallable run }
-    ensures { OnOk result (RunsOn F.FnMut run bytes.now) }
+    ensures { OnOk result (RunsOnBytes F.FnMut run bytes.now) }
 {
     (Lines { rest: bytes }).try_for_each(run)
 }
 
 // The same of the first ROOM bytes that the reader gives.
-fn each_line_within<R: Read, F: FnMut(&[u8]) -> io::Result<()>, const ROOM: usize>(
+fn each_line_of_bytes_within<R: Read, F: FnMut(&[u8]) -> io::Result<()>, const ROOM: usize>(
     reader: &mut R,
     run: F,
 ) -> io::Result<()>
     requires callable { F.IsAlwaysCallable run }
     requires room { ROOM < 2 ^ 63 }
-    ensures { OnOk result ((bytes : List ℕ) × Consumes (R.remaining reader.old) (R.remaining reader.new) bytes × RunsOn F.FnMut run bytes) }
+    ensures { OnOk result ((bytes : List ℕ) × Consumes (R.remaining reader.old) (R.remaining reader.new) bytes × RunsOnBytes F.FnMut run bytes) }
 {
     let mut buffer = [0; ROOM];
     let input = streams::input(reader, &mut buffer)?;
-    each_line_of(input, run)
+    each_line_of_bytes(input, run)
 }
 
 // The same of what the reader gives. What stands behind the last of 1,048,576 bytes stays unread.
-pub fn each_line<R: Read, F: FnMut(&[u8]) -> io::Result<()>>(
+pub fn each_line_as_bytes<R: Read, F: FnMut(&[u8]) -> io::Result<()>>(
     reader: &mut R,
     run: F,
 ) -> io::Result<()>
     requires { F.IsAlwaysCallable run }
-    ensures { OnOk result ((bytes : List ℕ) × Consumes (R.remaining reader.old) (R.remaining reader.new) bytes × RunsOn F.FnMut run bytes) }
+    ensures { OnOk result ((bytes : List ℕ) × Consumes (R.remaining reader.old) (R.remaining reader.new) bytes × RunsOnBytes F.FnMut run bytes) }
+{
+    each_line_of_bytes_within::<R, F, 1_048_576>(reader, run)
+}
+
+// Runs `run` on each line of a text, in their order, until one fails.
+pub fn each_line_of<F: FnMut(&str) -> io::Result<()>>(text: &str, run: F) -> io::Result<()>
+    requires { F.IsAlwaysCallable run }
+    ensures { OnOk result (RunsOn F.FnMut run text.now) }
+{
+    text.lines().try_for_each(run)
+}
+
+// The same of the first ROOM bytes that the reader gives.
+fn each_line_within<R: Read, F: FnMut(&str) -> io::Result<()>, const ROOM: usize>(
+    reader: &mut R,
+    run: F,
+) -> io::Result<()>
+    requires callable { F.IsAlwaysCallable run }
+    requires room { ROOM < 2 ^ 63 }
+    ensures { OnOk result ((text : List ℕ) × Consumes (R.remaining reader.old) (R.remaining reader.new) text × RunsOn F.FnMut run text) }
+{
+    let mut buffer = [0; ROOM];
+    let input = streams::input(reader, &mut buffer)?;
+    let Ok(text) = str::from_utf8(input) else {
+        return Err(ErrorKind::InvalidData.into());
+    };
+    each_line_of(text, run)
+}
+
+// The same of what the reader gives. What stands behind the last of 1,048,576 bytes stays unread; bytes that are
+// no text are refused as invalid data.
+pub fn each_line<R: Read, F: FnMut(&str) -> io::Result<()>>(
+    reader: &mut R,
+    run: F,
+) -> io::Result<()>
+    requires { F.IsAlwaysCallable run }
+    ensures { OnOk result ((text : List ℕ) × Consumes (R.remaining reader.old) (R.remaining reader.new) text × RunsOn F.FnMut run text) }
 {
     each_line_within::<R, F, 1_048_576>(reader, run)
 }

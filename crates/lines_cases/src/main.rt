@@ -11,5 +11,5 @@ mod table;
 use std::io;
 
 fn main(rt: HostRuntime) -> io::Result<()> {
-    cases::each_line(&mut rt.stdin(), |line| commands::run(&rt, line))
+    cases::each_line_as_bytes(&mut rt.stdin(), |line| commands::run(&rt, line))
 }

@@ -44,5 +44,5 @@ fn run(rt: &impl Print, q: Sheet) -> io::Result<()> {
 }
 
 fn main(rt: HostRuntime) -> io::Result<()> {
-    cases::each_line(&mut rt.stdin(), |line| run(&rt, sheet_in(line)))
+    cases::each_line_as_bytes(&mut rt.stdin(), |line| run(&rt, sheet_in(line)))
 }
