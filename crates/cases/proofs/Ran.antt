@@ -1,5 +1,5 @@
 -- What `try_for_each` says of the lines of some bytes and of a text, where each call answers Ok.
-use Rattle.std.proofs.Common.{◌≡◌, ◌∙◌, ℕ, List, [], ◌∷◌, map, None, Some, Ok, Err, OnOk, ap, subst}
+use Rattle.std.proofs.Common.{◌≡◌, ◌∙◌, ℕ, List, [], ◌∷◌, map, None, Some, Ok, Err, OnOk, refl, ap, subst}
 use Rattle.std.specs.declared.option.Option.{Option}
 use Rattle.std.specs.declared.result.Result.{Result}
 use Rattle.std.specs.declared.str.Lines.{Lines}
@@ -38,18 +38,25 @@ module _ {F E : Type 0} (g : Mut F (Bor (List ℕ) × Unit {0}) (Result (Unit {0
       let j = t.0 in
       (j, subst (λ r. Called g f (x, tt) r j) t.1.2 t.1.1, each_ok xs j last t.2)
 
+  -- Ok is answered only where no line was left, so P is owed there alone
+  by_end : {P : Type 0} (X : Type 0) (Y : Bor (List ℕ) → Type 0) (o : Option (Bor (List ℕ))) (r : Result (Unit {0}) E) → MatchOption o X Y
+      → ((x : Bor (List ℕ)) → Y x → IsErr r) → (o ≡ None → P) → OnOk r P
+  by_end X Y o (Err e) end broke none = tt
+  by_end X Y (Some x) (Ok u) end broke none = absurd (subst (λ b. MatchBool b ⊥ (Unit {0})) (broke x end) tt)
+  by_end X Y None (Ok u) end broke none = none refl
+
   pub ran_on_bytes : {S : Type 0} (rest : S → List ℕ) (X : Type 0) (Y : Bor (List ℕ) → Type 0) (f last : F) (first behind : S) (xs : List (Bor (List ℕ))) (o : Option (Bor (List ℕ)))
       (r : Result (Unit {0}) E) → YieldsThen (Takes rest) first xs o behind → FoldsTo Turn f xs last → MatchOption o X Y
       → ((x : Bor (List ℕ)) → Y x → IsErr r) → OnOk r (RunsOnBytes g f (rest first))
-  ran_on_bytes rest X Y f last first behind xs o (Err e) all called end broke = tt
-  ran_on_bytes rest X Y f last first behind xs (Some x) (Ok u) all called end broke = absurd (subst (λ b. MatchBool b ⊥ (Unit {0})) (broke x end) tt)
-  ran_on_bytes rest X Y f last first behind xs None (Ok u) all called end broke =
-      record { lines = xs; last = last; all = all_lines rest xs first behind all; called = each_ok xs f last called }
+  ran_on_bytes rest X Y f last first behind xs o r all called end broke =
+      by_end X Y o r end broke (λ none.
+      let whole = subst (λ l. YieldsThen (Takes rest) first xs l behind) none all in
+      record { lines = xs; last = last; all = all_lines rest xs first behind whole; called = each_ok xs f last called })
 
   pub ran : (X : Type 0) (Y : Bor (List ℕ) → Type 0) (f last : F) (text : List ℕ) (first behind : Lines) (xs : List (Bor (List ℕ))) (o : Option (Bor (List ℕ)))
       (r : Result (Unit {0}) E) → lines_rest first ≡ text → YieldsThen lines_steps first xs o behind → FoldsTo Turn f xs last → MatchOption o X Y
       → ((x : Bor (List ℕ)) → Y x → IsErr r) → OnOk r (RunsOn g f text)
-  ran X Y f last text first behind xs o (Err e) of_text all called end broke = tt
-  ran X Y f last text first behind xs (Some x) (Ok u) of_text all called end broke = absurd (subst (λ b. MatchBool b ⊥ (Unit {0})) (broke x end) tt)
-  ran X Y f last text first behind xs None (Ok u) of_text all called end broke =
-      record { first = first; behind = behind; lines = xs; last = last; of_text = of_text; all = all; called = each_ok xs f last called }
+  ran X Y f last text first behind xs o r of_text all called end broke =
+      by_end X Y o r end broke (λ none.
+      let whole = subst (λ l. YieldsThen lines_steps first xs l behind) none all in
+      record { first = first; behind = behind; lines = xs; last = last; of_text = of_text; all = whole; called = each_ok xs f last called })
